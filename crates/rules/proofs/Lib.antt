@@ -1,0 +1,2 @@
+-- What follows from the rules. No contract cites these files.
+pub mod Edges

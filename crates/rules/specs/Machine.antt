@@ -1,0 +1,102 @@
+-- The whole machine: what each operation is answered on which tables, and the tables after it.
+--   Operation         a call, a completion, a wake or a reported event; room is the length of the lent action memory
+--   reply p t op      the answer's content, host refusals first
+--   after, afterAll   the tables after an operation, and after a history of them
+use mathlib.Core.Bool.{Bool, true, false, not}
+use mathlib.Core.List.{List, [], _∷_}
+use Prim.Native.Nat.{ℕ}
+use lib.Dec.{ltb, eqb}
+use Rattle.rules.specs.Choice.{if_then_else_}
+use Rattle.rules.specs.Names.{actionMemory, counters, STARTED, notSupported, notWellFormed, notEnabled, notStarted, shortMemory}
+use Rattle.rules.specs.Platform.{enabled}
+use Rattle.rules.specs.Tables.{Tables, stateOf, wellFormed}
+use Rattle.rules.specs.Replies.{View, view, Reply, refused, Plain, fails, gives, plain, commit}
+use Rattle.rules.specs.Base.{specVersion, probed}
+use Rattle.rules.specs.Fences.{interruptReply, fenceReply}
+use Rattle.rules.specs.Harts.{startReply, stopReply, statusReply, suspendReply, doneReply, wakeReply}
+use Rattle.rules.specs.Counters.{detailsReply, configureReply, counterStartReply, counterStopReply, readReply, readHighReply, eventReply}
+use Rattle.rules.specs.Requests.{LifeRequest, hartStart, hartStop, hartSuspend, Request, life, other, request}
+use Rattle.rules.specs.Requests.{PlainRequest, baseVersion, baseImplementation, baseImplementationVersion, baseVendor, baseArchitecture, baseMachine, baseProbe}
+use Rattle.rules.specs.Requests.{interrupt, fence, hartStatus, counterCount, counterDetails, counterConfigure, counterStart, counterStop, counterRead, counterReadHigh, unknown}
+use Rattle.rules.specs.declared.platform.Platform.{Platform}
+use Rattle.rules.specs.declared.answers.Registers.{Registers}
+
+-- ----- the reply to a call of the running hart h
+
+unfoldable pub lifeReply : Platform → View → (h : ℕ) → LifeRequest → Reply
+lifeReply p v h (hartStart k a o) = startReply p v k a o
+lifeReply p v h hartStop = stopReply v h
+lifeReply p v h (hartSuspend y a o) = suspendReply p v h y a o
+
+unfoldable pub plainReply : Platform → View → PlainRequest → Plain
+plainReply p v baseVersion = gives specVersion (v .own)
+plainReply p v baseImplementation = gives (p .implementation) (v .own)
+plainReply p v baseImplementationVersion = gives (p .version) (v .own)
+plainReply p v (baseProbe e) = gives (probed e) (v .own)
+plainReply p v baseVendor = gives (p .vendor) (v .own)
+plainReply p v baseArchitecture = gives (p .architecture) (v .own)
+plainReply p v baseMachine = gives (p .machine) (v .own)
+plainReply p v (interrupt m base) = interruptReply p v m base
+plainReply p v (fence f m base s n i) = fenceReply p v f m base s n i
+plainReply p v (hartStatus k) = statusReply p v k
+plainReply p v counterCount = gives counters (v .own)
+plainReply p v (counterDetails i) = detailsReply (v .own) i
+plainReply p v (counterConfigure base m flags e d) = configureReply p (v .own) base m flags e d
+plainReply p v (counterStart base m flags x) = counterStartReply p (v .own) base m flags x
+plainReply p v (counterStop base m flags) = counterStopReply p (v .own) base m flags
+plainReply p v (counterRead i) = readReply (v .own) i
+plainReply p v (counterReadHigh i) = readHighReply (v .own) i
+plainReply p v unknown = fails notSupported
+
+unfoldable pub requestReply : Platform → View → (h : ℕ) → Request → Reply
+requestReply p v h (life q) = lifeReply p v h q
+requestReply p v h (other q) = plain v (plainReply p v q)
+
+-- ----- operations
+
+pub data Operation : Type 0 where
+  call : (room h : ℕ) → Registers → Operation
+  completion : (room h : ℕ) → Operation
+  waking : (room h : ℕ) → Operation
+  event : (h code : ℕ) → Operation
+
+-- the hart that it is of
+abbrev pub hartOf : Operation → ℕ
+hartOf (call room h r) = h
+hartOf (completion room h) = h
+hartOf (waking room h) = h
+hartOf (event h e) = h
+
+-- H4: "action memory under 640 words (calls, completions, wakes)"
+abbrev pub isShort : Operation → Bool
+isShort (call room h r) = ltb room actionMemory
+isShort (completion room h) = ltb room actionMemory
+isShort (waking room h) = ltb room actionMemory
+isShort (event h e) = false
+
+-- H3, H5 and H6, and what else there is to answer
+unfoldable pub enabledReply : Platform → View → Operation → Reply
+enabledReply p v (call room h r) = if not (eqb (stateOf (v .harts) h) STARTED) then refused notStarted else requestReply p v h (request r)
+enabledReply p v (completion room h) = doneReply v h
+enabledReply p v (waking room h) = wakeReply v h
+enabledReply p v (event h e) = eventReply v e
+
+-- on tables that are well formed: H4, H2, then the rest
+unfoldable pub checkedReply : Platform → Tables → Operation → Reply
+checkedReply p t op =
+    if isShort op then refused shortMemory
+    else if not (enabled p (hartOf op)) then refused notEnabled
+    else enabledReply p (view t (hartOf op)) op
+
+-- "Host refusals come instead of a pair, tested in this order": H1, H4, H2, H3, H5, H6
+unfoldable pub reply : Platform → Tables → Operation → Reply
+reply p t op = if not (wellFormed p t) then refused notWellFormed else checkedReply p t op
+
+-- ----- the tables after
+
+unfoldable pub after : Platform → Tables → Operation → Tables
+after p t op = commit t (hartOf op) (reply p t op)
+
+abbrev pub afterAll : Platform → Tables → List Operation → Tables
+afterAll p t [] = t
+afterAll p t (op ∷ ops) = afterAll p (after p t op) ops
