@@ -1,2 +1,4 @@
 -- What follows from the rules. No contract cites these files.
+pub mod Logic
+pub mod SetLaws
 pub mod Edges
