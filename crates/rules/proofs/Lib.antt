@@ -1,4 +1,5 @@
 -- What follows from the rules. No contract cites these files.
 pub mod Logic
 pub mod SetLaws
+pub mod Ascending
 pub mod Edges

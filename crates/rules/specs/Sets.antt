@@ -5,12 +5,14 @@
 --   every n f          f holds at each number below n
 --   those n f          the numbers below n at which f holds, ascending
 --   numbers w base m   the numbers base + i for each set bit i of a mask of w bits, ascending
+--   names w base m k   whether k is one of these numbers, asked of k alone
+--   Ascending l        each number of l is greater than the one before it
 --   keep f l, all f l, any f l, first l   of a list: those where f holds; whether all or any do; the first, if any
 use mathlib.Core.Bool.{Bool, true, false, _&&_, _||_}
 use mathlib.Core.List.{List, [], _∷_, _++_, map}
 use mathlib.Core.Option.{Option, none, some}
-use Prim.Native.Nat.{ℕ, zero, suc, _+_, _-_, _^_, _/_, _%_}
-use lib.Dec.{eqb}
+use Prim.Native.Nat.{ℕ, zero, suc, _+_, _-_, _^_, _/_, _%_, _≤_}
+use lib.Dec.{eqb, ltb, leb}
 use Rattle.rules.specs.Choice.{if_then_else_}
 
 unfoldable pub bit : ℕ → ℕ → Bool
@@ -30,6 +32,17 @@ those (suc n) f = those n f ++ (if f n then n ∷ [] else [])
 -- "bit i selects hart base + i, summed without wrapping"; "bit i is counter base + i without wrapping"
 unfoldable pub numbers : (w base m : ℕ) → List ℕ
 numbers w base m = map (λ (i : ℕ). base + i) (those w (bit m))
+
+unfoldable pub names : (w base m k : ℕ) → Bool
+names w base m k = leb base k && (ltb (k - base) w && bit m (k - base))
+
+-- each number is at least b, and greater than the one before it: so none comes twice
+abbrev pub Above : ℕ → List ℕ → Type 0
+Above b [] = Unit
+Above b (x ∷ l) = (b ≤ x) × Above (suc x) l
+
+abbrev pub Ascending : List ℕ → Type 0
+Ascending = Above 0
 
 unfoldable pub first : List ℕ → Option ℕ
 first [] = none
