@@ -2,4 +2,5 @@
 pub mod Logic
 pub mod SetLaws
 pub mod Ascending
+pub mod WellFormed
 pub mod Edges

@@ -1,9 +1,10 @@
 -- Plain logic: the laws of `if_then_else_`, tests joined by and, or, not, and contradictions.
 use mathlib.Core.Path.{_≡_, refl, sym, _∙_}
 use mathlib.Core.Bool.{Bool, true, false, not, _&&_, _||_}
-use Prim.Native.Nat.{ℕ}
+use Prim.Native.Nat.{ℕ, _<_, _≤_}
 use native.Mathlib.Omega.{arith}
-use lib.Dec.{eqb}
+use lib.Dec.{ltb}
+use borrow.Author.Tests.{ltb-true, ltb-false}
 use Rattle.rules.specs.Choice.{if_then_else_}
 
 -- ----- choices
@@ -47,6 +48,10 @@ clash t f = false-true (sym f ∙ t)
 pub by-cases : {P : Type 0} (b : Bool) → (b ≡ true → P) → (b ≡ false → P) → P
 by-cases true f g = f refl
 by-cases false f g = g refl
+
+-- a number is below another, or at least it
+pub below-or : {P : Type 0} (a b : ℕ) → (a < b → P) → (b ≤ a → P) → P
+below-or a b f g = by-cases (ltb a b) (λ e. f (ltb-true a b e)) (λ e. g (ltb-false a b e))
 
 pub false-if : (b : Bool) → (b ≡ true → ⊥) → b ≡ false
 false-if true f = absurd (f refl)
