@@ -3,4 +3,6 @@ pub mod Logic
 pub mod SetLaws
 pub mod Ascending
 pub mod WellFormed
+pub mod Readings
+pub mod Effects
 pub mod Edges
