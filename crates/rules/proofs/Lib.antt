@@ -5,4 +5,6 @@ pub mod Ascending
 pub mod WellFormed
 pub mod Readings
 pub mod Effects
+pub mod Lists
+pub mod Kept
 pub mod Edges
