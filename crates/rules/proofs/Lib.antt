@@ -7,4 +7,5 @@ pub mod Readings
 pub mod Effects
 pub mod Lists
 pub mod Kept
+pub mod Demand3
 pub mod Edges

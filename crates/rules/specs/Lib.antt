@@ -15,3 +15,4 @@ pub mod Machine
 pub mod Lives
 pub mod Rows
 pub mod Edges
+pub mod Promises

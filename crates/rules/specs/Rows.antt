@@ -5,11 +5,11 @@ use Prim.Native.Nat.{ℕ}
 use lib.Dec.{leb, eqb}
 use Rattle.rules.specs.Choice.{if_then_else_}
 use Rattle.rules.specs.Names.{STARTED, actionMemory, retentiveType, nonRetentiveType}
-use Rattle.rules.specs.Platform.{enabled, validAddress}
+use Rattle.rules.specs.Platform.{validAddress}
 use Rattle.rules.specs.Tables.{Tables, stateOf, fresh}
 use Rattle.rules.specs.Replies.{accepted}
 use Rattle.rules.specs.Requests.{LifeRequest, hartStart, hartStop, hartSuspend, Request, life, other, request}
-use Rattle.rules.specs.Machine.{Operation, call, completion, waking, event, hartOf, reply, after, afterAll}
+use Rattle.rules.specs.Machine.{Operation, call, completion, waking, event, reply, after, afterAll}
 use Rattle.rules.specs.Lives.{Event, start, stop, suspend, done, wake}
 use Rattle.rules.specs.declared.platform.Platform.{Platform}
 
@@ -68,7 +68,7 @@ passes p (other q) = true
 
 -- "its action memory is long enough and, for a call, its caller is running and its type and address pass"
 unfoldable pub ready : Platform → Tables → Operation → Bool
-ready p t (call room h r) = leb actionMemory room && (enabled p h && (eqb (stateOf (t .harts) h) STARTED && passes p (request r)))
+ready p t (call room h r) = leb actionMemory room && (eqb (stateOf (t .harts) h) STARTED && passes p (request r))
 ready p t (completion room h) = leb actionMemory room
 ready p t (waking room h) = leb actionMemory room
 ready p t (event h e) = true

@@ -1,0 +1,126 @@
+-- THE PROMISES: every statement that is proved of the rules, each under the sentence it stands for. Read this file and the
+-- definitions it cites; proofs/Theorems has a theorem of the same name for each.
+use mathlib.Core.Path.{_≡_}
+use mathlib.Core.Bool.{Bool, true, false, _&&_}
+use mathlib.Core.List.{List, [], _∷_, _++_, map, List·Memᴰ}
+use mathlib.Core.Logic.{_↔_}
+use Prim.Native.Nat.{ℕ, _+_, _<_, _≤_}
+use lib.Dec.{eqb}
+use lib.IntN.{ℤ}
+use Rattle.rules.specs.Choice.{if_then_else_}
+use Rattle.rules.specs.Sets.{bit, ones, Ascending}
+use Rattle.rules.specs.Names.{HSM, harts, success}
+use Rattle.rules.specs.Platform.{width, enabled, platformAccepted, PlatformAccepted}
+use Rattle.rules.specs.Tables.{Tables, hartAt, stateOf, ownAt, counterAt, fresh, tablesWellFormed, TablesWellFormed, wellFormed}
+use Rattle.rules.specs.Replies.{Reply, accepted, counted, answerOf, actionsOf, memoryAfter}
+use Rattle.rules.specs.Masks.{selected, selectionFits, isReached, reached}
+use Rattle.rules.specs.Machine.{Operation, call, event, hartOf, reply, after}
+use Rattle.rules.specs.Lives.{Event, Life, row, events, Reading, placed}
+use Rattle.rules.specs.Rows.{InRow, _does_, eventOf, tablesNow, rowNow, ready}
+use Rattle.rules.specs.Edges.{Edge, edges, computed}
+use Rattle.rules.specs.declared.platform.Platform.{Platform}
+use Rattle.rules.specs.declared.records.Hart.{Hart}
+use Rattle.rules.specs.declared.answers.Registers.{Registers}
+use Rattle.rules.specs.declared.answers.Answer.{Answer}
+use Rattle.rules.specs.declared.answers.Answer.the-variants.{Pair, Refused}
+
+-- ----- demand 3
+
+-- of the enabled hart h after any history from fresh tables
+pub record LivesOf (p : Platform) (ops : List Operation) (h : ℕ) : Type 0 where
+  -- "each enabled hart's accepted events form the start of a row of lives"
+  pub reads : Reading (rowNow p ops h)
+  -- "The reported status is the one that this place in the row names": the table's, and what a status call answers
+  pub status : (r : Reading (rowNow p ops h)) → stateOf (tablesNow p ops .harts) h ≡ placed r
+  pub reported : (r : Reading (rowNow p ops h)) (room k : ℕ) (q : Registers) → q .a7 ≡ HSM → q .a6 ≡ 2 → q .a0 ≡ h
+      → ready p (tablesNow p ops) (call room k q) ≡ true
+      → answerOf (reply p (tablesNow p ops) (call room k q)) ≡ Pair success (placed r) false 0
+  -- "An event that fits is accepted if its action memory is long enough and, for a call, its caller is running and its
+  -- type and address pass; one that does not fit is refused."
+  pub accepts : (e : Event) (op : Operation) → eventOf op ≡ h does e ∷ [] → ready p (tablesNow p ops) op ≡ true
+      → Reading (rowNow p ops h ++ (e ∷ [])) → accepted (reply p (tablesNow p ops) op) ≡ true
+  pub refuses : (e : Event) (op : Operation) → eventOf op ≡ h does e ∷ []
+      → ¬ Reading (rowNow p ops h ++ (e ∷ [])) → accepted (reply p (tablesNow p ops) op) ≡ false
+
+-- "For any sequence of calls, completions and wakes from a fresh accepted platform"
+abbrev pub LivesHold : Type 0
+LivesHold = (p : Platform) → platformAccepted p ≡ true → (ops : List Operation) (h : ℕ) → enabled p h ≡ true → LivesOf p ops h
+
+-- "No row can be read in two ways": two readings of the same events agree in every event and status, and a row that is
+-- whole settles its lives
+pub record ReadOnce : Type 0 where
+  pub fronts : (es : List Event) (r s : Reading es) → r .front ≡ s .front
+  pub rows : (ls ls′ : List Life) → events (row ls) ≡ events (row ls′) → ls ≡ ls′
+
+-- ----- demand 1
+
+-- "Every refusal, error pairs included, leaves the tables and all action memory unaltered; the front part handed back is
+-- then empty."
+pub record Unaltered (p : Platform) (t : Tables) (op : Operation) : Type 0 where
+  pub tables : after p t op ≡ t
+  pub actions : actionsOf (reply p t op) ≡ []
+  pub memory : (m : List ℕ) → memoryAfter m (reply p t op) ≡ m
+
+abbrev pub RefusalsAlterNothing : Type 0
+RefusalsAlterNothing = (p : Platform) (t : Tables) (op : Operation) → accepted (reply p t op) ≡ false → Unaltered p t op
+
+-- ----- well formed
+
+-- the tests say what the statements say
+abbrev pub PlatformTestAgrees : Type 0
+PlatformTestAgrees = (p : Platform) → platformAccepted p ≡ true ↔ PlatformAccepted p
+
+abbrev pub TablesTestAgrees : Type 0
+TablesTestAgrees = (p : Platform) (t : Tables) → tablesWellFormed p t ≡ true ↔ TablesWellFormed p t
+
+-- fresh tables of an accepted platform are well formed, and every operation keeps tables well formed
+abbrev pub FreshWellFormed : Type 0
+FreshWellFormed = (p : Platform) → platformAccepted p ≡ true → wellFormed p (fresh p) ≡ true
+
+abbrev pub WellFormedKept : Type 0
+WellFormedKept = (p : Platform) (t : Tables) (op : Operation) → wellFormed p t ≡ true → wellFormed p (after p t op) ≡ true
+
+-- ----- masks: "A hart mask reaches exactly the harts that the rules name."
+
+pub record MaskExact (p : Platform) (m base : ℕ) : Type 0 where
+  -- "With base 2^64 - 1 the mask is ignored and all enabled harts are selected."
+  pub everyone : base ≡ ones (width p) → (h : ℕ) → List·Memᴰ h (selected p m base) ↔ (enabled p h ≡ true)
+  -- "Otherwise bit i selects hart base + i, summed without wrapping"
+  pub named : (base ≡ ones (width p) → ⊥)
+      → (h : ℕ) → List·Memᴰ h (selected p m base) ↔ ((i : ℕ) × (i < width p) × (bit m i ≡ true) × (h ≡ base + i))
+  -- "any selected number not enabled gives -3"
+  pub fits : selectionFits p m base ≡ true ↔ ((h : ℕ) → List·Memᴰ h (selected p m base) → enabled p h ≡ true)
+  -- so a bit whose sum is over 127 refuses the mask: it never comes round to a small number
+  pub neverWraps : (base ≡ ones (width p) → ⊥) → (i : ℕ) → i < width p → bit m i ≡ true → harts ≤ base + i → selectionFits p m base ≡ false
+  -- in ascending order, none twice
+  pub ascending : Ascending (selected p m base)
+  -- "A selected hart is reached unless STOPPED or STOP_PENDING"
+  pub reaches : (hs : List Hart) (h : ℕ) → List·Memᴰ h (reached p hs m base) ↔ (List·Memᴰ h (selected p m base) × (isReached hs h ≡ true))
+  pub reachedAscending : (hs : List Hart) → Ascending (reached p hs m base)
+
+abbrev pub MasksExact : Type 0
+MasksExact = (p : Platform) (m base : ℕ) → MaskExact p m base
+
+-- ----- isolation
+
+-- "For two well-formed states that differ only in other harts' counters, a call gives the same pair, hart states and
+-- actions." So does every other operation.
+pub record Alike (p : Platform) (h : ℕ) (t t′ : Tables) : Type 0 where
+  pub well : wellFormed p t ≡ true
+  pub well′ : wellFormed p t′ ≡ true
+  pub harts : t .harts ≡ t′ .harts
+  pub own : ownAt t h ≡ ownAt t′ h
+
+pub record SameOutcome (p : Platform) (op : Operation) (t t′ : Tables) : Type 0 where
+  pub answer : answerOf (reply p t op) ≡ answerOf (reply p t′ op)
+  pub actions : actionsOf (reply p t op) ≡ actionsOf (reply p t′ op)
+  pub harts : after p t op .harts ≡ after p t′ op .harts
+
+abbrev pub CountersApart : Type 0
+CountersApart = (p : Platform) (op : Operation) (t t′ : Tables) → Alike p (hartOf op) t t′ → SameOutcome p op t t′
+
+-- ----- edges
+
+-- P1 to P12, computed
+abbrev pub EdgesHold : Type 0
+EdgesHold = computed edges ≡ map (λ (e : Edge). e .want) edges
