@@ -1,6 +1,6 @@
 -- What a reply does to the hart records: nothing, or one hart's record moved as its event goes in that hart's row.
 use mathlib.Core.Path.{_≡_, refl, sym, _∙_, subst}
-use mathlib.Core.Bool.{Bool, true, false, not}
+use mathlib.Core.Bool.{Bool, true, false}
 use mathlib.Core.List.{List, [], _∷_}
 use Prim.Native.Nat.{ℕ}
 use native.Mathlib.Omega.{arith}
@@ -8,15 +8,15 @@ use lib.ListN.{set}
 use lib.IntN.{ℤ}
 use borrow.Author.Tests.{eqb-true, not-false}
 use Rattle.rules.specs.Choice.{if_then_else_}
-use Rattle.rules.specs.Names.{STARTED, STOPPED}
+use Rattle.rules.specs.Names.{STARTED}
 use Rattle.rules.specs.Platform.{enabled}
 use Rattle.rules.specs.Tables.{Tables, hartAt, stateOf}
-use Rattle.rules.specs.Replies.{View, view, Done, Reply, refused, failed, did, moves, Plain, fails, gives, sends, plain, counted}
+use Rattle.rules.specs.Replies.{View, view, Done, Reply, refused, failed, did, moves, Plain, fails, gives, sends, plain}
 use Rattle.rules.specs.Harts.{doneOf, wakeOf, suspendOf, startReply, stopReply, suspendReply, goesOn, wakeActions, doneReply, wakeReply}
 use Rattle.rules.specs.Counters.{eventReply}
 use Rattle.rules.specs.Requests.{LifeRequest, hartStart, hartStop, hartSuspend, Request, life, other, request}
 use Rattle.rules.specs.Machine.{lifeReply, plainReply, requestReply, Operation, call, completion, waking, event, hartOf, enabledReply, checkedReply, reply}
-use Rattle.rules.specs.Lives.{Event, start, stop, suspend, done, wake}
+use Rattle.rules.specs.Lives.{Event, suspend, done, wake}
 use Rattle.rules.specs.Rows.{InRow, _does_, lifeEvent, requestEvent, eventOf}
 use Rattle.rules.specs.declared.platform.Platform.{Platform}
 use Rattle.rules.specs.declared.records.Hart.{Hart}

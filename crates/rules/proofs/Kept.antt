@@ -1,6 +1,6 @@
 -- Fresh tables are well formed, and every operation keeps tables well formed.
 use mathlib.Core.Path.{_≡_, refl, ap, sym, _∙_, subst}
-use mathlib.Core.Bool.{Bool, true, false, not, _&&_, _||_}
+use mathlib.Core.Bool.{Bool, true, false}
 use mathlib.Core.List.{List, [], _∷_, map}
 use mathlib.Core.Option.{Option, none, some}
 use Prim.Native.Nat.{ℕ, _+_, _-_, _<_, _≤_, zero-le}
@@ -12,8 +12,8 @@ use borrow.Author.Tests.{leb-true, not-false}
 use Rattle.rules.specs.Choice.{if_then_else_}
 use Rattle.rules.specs.Sets.{bit, all}
 use Rattle.rules.specs.Names.{harts, counters, firstEvent, lastEvent, lastCode, STARTED, STOPPED}
-use Rattle.rules.specs.Platform.{enabled, platformAccepted}
-use Rattle.rules.specs.Tables.{Tables, idle, blank, hartAt, ownAt, counterAt, fresh, tablesWellFormed, wellFormed}
+use Rattle.rules.specs.Platform.{enabled}
+use Rattle.rules.specs.Tables.{Tables, idle, blank, hartAt, ownAt, counterAt, fresh}
 use Rattle.rules.specs.Tables.{CounterFine, HartFine, OwnFine, TablesWellFormed}
 use Rattle.rules.specs.Replies.{View, view, Done, Reply, refused, failed, did, moves, Plain, fails, gives, sends, plain, counted, countAt, tellOne, tell, commit}
 use Rattle.rules.specs.Masks.{sendTo}
@@ -21,7 +21,7 @@ use Rattle.rules.specs.Fences.{interruptReply, fenceReply}
 use Rattle.rules.specs.Harts.{startReply, stopReply, statusReply, suspendReply, goesOn, doneReply, wakeReply}
 use Rattle.rules.specs.Counters.{counterSet, each, isMapped, isEvent, chosen, configured, configureChosen, begun, ended}
 use Rattle.rules.specs.Counters.{detailsReply, configureReply, counterStartReply, counterStopReply, readReply, readHighReply, eventReply}
-use Rattle.rules.specs.Requests.{LifeRequest, hartStart, hartStop, hartSuspend, Request, life, other}
+use Rattle.rules.specs.Requests.{hartStart, hartStop, hartSuspend, Request, life, other}
 use Rattle.rules.specs.Requests.{PlainRequest, baseVersion, baseImplementation, baseImplementationVersion, baseVendor, baseArchitecture, baseMachine, baseProbe}
 use Rattle.rules.specs.Requests.{interrupt, fence, hartStatus, counterCount, counterDetails, counterConfigure, counterStart, counterStop, counterRead, counterReadHigh, unknown}
 use Rattle.rules.specs.Machine.{lifeReply, plainReply, requestReply, Operation, call, completion, waking, event, hartOf, enabledReply, checkedReply, reply, after, afterAll}
@@ -34,7 +34,7 @@ use Rattle.rules.specs.declared.records.Next.the-variants.{To, Forbidden
 use Rattle.rules.specs.declared.actions.Action.{Action}
 use Rattle.rules.proofs.Logic.{if-both, by-cases, clash, and-l, and-r, and-of, false-true}
 use Rattle.rules.proofs.Lists.{set-either, getD-repeat}
-use Rattle.rules.proofs.WellFormed.{enabled-under, platform-agrees, tables-agree, blank-fine}
+use Rattle.rules.proofs.WellFormed.{enabled-under, blank-fine}
 use Rattle.rules.proofs.Readings.{name-le, named-place}
 use Rattle.rules.proofs.Effects.{Effect, still, moved, Lawful, l-did, reply-lawful}
 

@@ -7,5 +7,7 @@ pub mod Readings
 pub mod Effects
 pub mod Lists
 pub mod Kept
+pub mod Tracks
+pub mod Accepts
 pub mod Demand3
 pub mod Edges

@@ -1,8 +1,8 @@
 -- Lists as tables: what stands at a place after a store.
-use mathlib.Core.Path.{_≡_, refl, ap, _∙_, sym}
+use mathlib.Core.Path.{_≡_, refl, ap}
 use mathlib.Core.List.{List, [], _∷_}
-use Prim.Native.Nat.{ℕ, zero, suc, _<_, _≤_}
-use lib.ListN.{getD, set, length, replicate, getD-replicate, length-replicate, List·getD-eq-default}
+use Prim.Native.Nat.{ℕ, zero, suc}
+use lib.ListN.{getD, set, replicate, getD-replicate, length-replicate, List·getD-eq-default}
 use Rattle.rules.proofs.Logic.{below-or}
 
 module _ {A : Type 0} where

@@ -1,15 +1,15 @@
 -- The tests of platform and tables agree with the statements of what they test, both ways.
-use mathlib.Core.Path.{_≡_, refl, sym, ap, _∙_, subst}
+use mathlib.Core.Path.{_≡_, refl, sym, ap, _∙_}
 use mathlib.Core.Bool.{Bool, true, false, not, _&&_, _||_}
-use mathlib.Core.List.{List, [], List·Memᴰ}
+use mathlib.Core.List.{List}
 use mathlib.Core.Logic.{_↔_}
-use Prim.Native.Nat.{ℕ, zero, suc, _+_, _^_, _<_, _≤_, zero-le}
+use Prim.Native.Nat.{ℕ, _+_, _^_, _<_, _≤_, zero-le}
 use native.Mathlib.Omega.{arith}
 use lib.Dec.{ltb, leb, eqb}
-use lib.ListN.{getD, length, List·getD-eq-default}
-use borrow.Author.Tests.{ltb-true, ltb-false, leb-true, leb-false, eqb-true, lt-ltb, le-ltb, le-leb, eq-eqb, not-true, not-false}
+use lib.ListN.{length, List·getD-eq-default}
+use borrow.Author.Tests.{ltb-true, leb-true, eqb-true, lt-ltb, le-ltb, le-leb, eq-eqb, not-true}
 use Rattle.rules.specs.Choice.{if_then_else_}
-use Rattle.rules.specs.Sets.{every, all}
+use Rattle.rules.specs.Sets.{every}
 use Rattle.rules.specs.Names.{harts, counters, lastCode, STOPPED, RESUME-PENDING}
 use Rattle.rules.specs.Platform.{has, enabled, hypervisor, width, usedRanges, rangeAccepted, platformAccepted, PlatformAccepted}
 use Rattle.rules.specs.Tables.{Tables, idle, blank, hartAt, ownAt, counterAt, isIdle, isBlank, hartWellFormed, counterWellFormed, shaped, hartRowWellFormed, tablesWellFormed}

@@ -1,8 +1,7 @@
 -- "Edges worked through": the twelve that are proved, as one table. `EdgesHold` of `Promises` is the statement.
-use mathlib.Core.Bool.{Bool, true, false}
 use mathlib.Core.List.{List, [], _∷_, map}
-use Prim.Native.Nat.{ℕ, _+_, _-_, _^_}
-use lib.IntN.{ℤ, pos}
+use Prim.Native.Nat.{ℕ, _-_, _^_}
+use lib.IntN.{ℤ}
 use lib.ListN.{replicate}
 use Rattle.rules.specs.Choice.{if_then_else_}
 use Rattle.rules.specs.Sets.{bit, every, those, numbers, first, keep, all, any}

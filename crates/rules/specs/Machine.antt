@@ -2,7 +2,7 @@
 --   Operation         a call, a completion, a wake or a reported event; room is the length of the lent action memory
 --   reply p t op      the answer's content, host refusals first
 --   after, afterAll   the tables after an operation, and after a history of them
-use mathlib.Core.Bool.{Bool, true, false, not}
+use mathlib.Core.Bool.{Bool, false, not}
 use mathlib.Core.List.{List, [], _∷_}
 use Prim.Native.Nat.{ℕ}
 use lib.Dec.{ltb, eqb}

@@ -8,7 +8,7 @@ use Rattle.rules.specs.Sets.{those, numbers, ones, keep, all}
 use Rattle.rules.specs.Names.{harts, STOPPED, STOP-PENDING}
 use Rattle.rules.specs.Platform.{width, enabled}
 use Rattle.rules.specs.Tables.{stateOf}
-use Rattle.rules.specs.Replies.{View, Plain, sends}
+use Rattle.rules.specs.Replies.{Plain, sends}
 use Rattle.rules.specs.declared.platform.Platform.{Platform}
 use Rattle.rules.specs.declared.records.Hart.{Hart}
 use Rattle.rules.specs.declared.actions.Action.{Action}

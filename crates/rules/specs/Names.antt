@@ -1,5 +1,5 @@
 -- Every number of document 01 under its name there. The code's constants are those of src/numbers.rt.
-use Prim.Native.Nat.{ℕ, _^_}
+use Prim.Native.Nat.{ℕ}
 use lib.IntN.{ℤ, pos, negsuc}
 
 -- ----- what there is: "Hart numbers 0 to 127. Eight counters a hart."

@@ -1,28 +1,24 @@
 -- THE PROMISES: every statement that is proved of the rules, each under the sentence it stands for. Read this file and the
 -- definitions it cites; proofs/Theorems has a theorem of the same name for each.
 use mathlib.Core.Path.{_≡_}
-use mathlib.Core.Bool.{Bool, true, false, _&&_}
+use mathlib.Core.Bool.{true, false}
 use mathlib.Core.List.{List, [], _∷_, _++_, map, List·Memᴰ}
 use mathlib.Core.Logic.{_↔_}
 use Prim.Native.Nat.{ℕ, _+_, _<_, _≤_}
-use lib.Dec.{eqb}
-use lib.IntN.{ℤ}
-use Rattle.rules.specs.Choice.{if_then_else_}
 use Rattle.rules.specs.Sets.{bit, ones, Ascending}
 use Rattle.rules.specs.Names.{HSM, harts, success}
 use Rattle.rules.specs.Platform.{width, enabled, platformAccepted, PlatformAccepted}
-use Rattle.rules.specs.Tables.{Tables, hartAt, stateOf, ownAt, counterAt, fresh, tablesWellFormed, TablesWellFormed, wellFormed}
-use Rattle.rules.specs.Replies.{Reply, accepted, counted, answerOf, actionsOf, memoryAfter}
+use Rattle.rules.specs.Tables.{Tables, stateOf, ownAt, fresh, tablesWellFormed, TablesWellFormed, wellFormed}
+use Rattle.rules.specs.Replies.{accepted, answerOf, actionsOf, memoryAfter}
 use Rattle.rules.specs.Masks.{selected, selectionFits, isReached, reached}
-use Rattle.rules.specs.Machine.{Operation, call, event, hartOf, reply, after}
+use Rattle.rules.specs.Machine.{Operation, call, hartOf, reply, after}
 use Rattle.rules.specs.Lives.{Event, Life, row, events, Reading, placed}
-use Rattle.rules.specs.Rows.{InRow, _does_, eventOf, tablesNow, rowNow, ready}
+use Rattle.rules.specs.Rows.{_does_, eventOf, tablesNow, rowNow, ready}
 use Rattle.rules.specs.Edges.{Edge, edges, computed}
 use Rattle.rules.specs.declared.platform.Platform.{Platform}
 use Rattle.rules.specs.declared.records.Hart.{Hart}
 use Rattle.rules.specs.declared.answers.Registers.{Registers}
-use Rattle.rules.specs.declared.answers.Answer.{Answer}
-use Rattle.rules.specs.declared.answers.Answer.the-variants.{Pair, Refused}
+use Rattle.rules.specs.declared.answers.Answer.the-variants.{Pair}
 
 -- ----- demand 3
 

@@ -5,7 +5,6 @@ use Prim.Native.Nat.{ℕ, _^_, _%_}
 use lib.Dec.{leb, eqb}
 use Rattle.rules.specs.Choice.{if_then_else_}
 use Rattle.rules.specs.Names.{BASE, IPI, RFENCE, HSM, PMU}
-use Rattle.rules.specs.declared.platform.Platform.{Platform}
 use Rattle.rules.specs.declared.answers.Registers.{Registers}
 
 -- the three calls that stand in a row, and so alter a hart's record

@@ -7,7 +7,7 @@
 --   fresh p                the tables at power-up
 --   tablesWellFormed p t   no ground of H1 holds against them; `WellFormed` says the same as a statement
 use mathlib.Core.Path.{_≡_}
-use mathlib.Core.Bool.{Bool, true, false, not, _&&_, _||_}
+use mathlib.Core.Bool.{Bool, true, false, not, _&&_}
 use mathlib.Core.List.{List, []}
 use Prim.Native.Nat.{ℕ, _≤_, _<_}
 use lib.Dec.{leb, eqb}
