@@ -6,6 +6,7 @@ pub mod WellFormed
 pub mod Readings
 pub mod Effects
 pub mod Lists
+pub mod Own
 pub mod Kept
 pub mod Tracks
 pub mod Accepts

@@ -4,12 +4,14 @@ use mathlib.Core.Path.{_≡_}
 use mathlib.Core.Bool.{true, false}
 use mathlib.Core.List.{List, [], _∷_, _++_, map, List·Memᴰ}
 use mathlib.Core.Logic.{_↔_}
+use lib.IntN.{ℤ}
 use Prim.Native.Nat.{ℕ, _+_, _<_, _≤_}
 use Rattle.rules.specs.Sets.{bit, ones, Ascending}
-use Rattle.rules.specs.Names.{HSM, harts, success}
+use Rattle.rules.specs.Names.{HSM, harts, success, notSupported, invalidParam, invalidAddress, alreadyAvailable, alreadyStarted, alreadyStopped, noSharedMemory}
+use Rattle.rules.specs.Names.{notWellFormed, notEnabled, notStarted, shortMemory, stateForbids, notReportable}
 use Rattle.rules.specs.Platform.{width, enabled, platformAccepted, PlatformAccepted}
 use Rattle.rules.specs.Tables.{Tables, stateOf, ownAt, fresh, tablesWellFormed, TablesWellFormed, wellFormed}
-use Rattle.rules.specs.Replies.{accepted, answerOf, actionsOf, memoryAfter}
+use Rattle.rules.specs.Replies.{Done, Reply, refused, failed, did, accepted, answerOf, actionsOf, memoryAfter}
 use Rattle.rules.specs.Masks.{selected, selectionFits, isReached, reached}
 use Rattle.rules.specs.Machine.{Operation, call, hartOf, reply, after}
 use Rattle.rules.specs.Lives.{Event, Life, row, events, Reading, placed}
@@ -59,6 +61,32 @@ pub record Unaltered (p : Platform) (t : Tables) (op : Operation) : Type 0 where
 
 abbrev pub RefusalsAlterNothing : Type 0
 RefusalsAlterNothing = (p : Platform) (t : Tables) (op : Operation) → accepted (reply p t op) ≡ false → Unaltered p t op
+
+-- "A refusal gives its listed number": the errors and the host refusals that the rules give, by their numbers
+pub data ListedError : ℤ → Type 0 where
+  is-2 : ListedError notSupported
+  is-3 : ListedError invalidParam
+  is-5 : ListedError invalidAddress
+  is-6 : ListedError alreadyAvailable
+  is-7 : ListedError alreadyStarted
+  is-8 : ListedError alreadyStopped
+  is-9 : ListedError noSharedMemory
+
+pub data ListedRefusal : ℕ → Type 0 where
+  is-H1 : ListedRefusal notWellFormed
+  is-H2 : ListedRefusal notEnabled
+  is-H3 : ListedRefusal notStarted
+  is-H4 : ListedRefusal shortMemory
+  is-H5 : ListedRefusal stateForbids
+  is-H6 : ListedRefusal notReportable
+
+pub data Listed : Reply → Type 0 where
+  listed-refusal : {k : ℕ} → ListedRefusal k → Listed (refused k)
+  listed-error : {e : ℤ} → ListedError e → Listed (failed e)
+  no-refusal : {d : Done} → Listed (did d)
+
+abbrev pub RefusalsListed : Type 0
+RefusalsListed = (p : Platform) (t : Tables) (op : Operation) → Listed (reply p t op)
 
 -- ----- well formed
 
