@@ -11,4 +11,7 @@ pub mod Kept
 pub mod Tracks
 pub mod Accepts
 pub mod Demand3
+pub mod Masks
+pub mod Refusals
+pub mod Counting
 pub mod Edges

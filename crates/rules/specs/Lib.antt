@@ -15,4 +15,5 @@ pub mod Machine
 pub mod Lives
 pub mod Rows
 pub mod Edges
+pub mod Events
 pub mod Promises

@@ -5,20 +5,24 @@ use mathlib.Core.Bool.{true, false}
 use mathlib.Core.List.{List, [], _∷_, _++_, map, List·Memᴰ}
 use mathlib.Core.Logic.{_↔_}
 use lib.IntN.{ℤ}
-use Prim.Native.Nat.{ℕ, _+_, _<_, _≤_}
+use Prim.Native.Nat.{ℕ, _+_, _^_, _%_, _<_, _≤_}
 use Rattle.rules.specs.Sets.{bit, ones, Ascending}
-use Rattle.rules.specs.Names.{HSM, harts, success, notSupported, invalidParam, invalidAddress, alreadyAvailable, alreadyStarted, alreadyStopped, noSharedMemory}
+use Rattle.rules.specs.Names.{HSM, IPI, RFENCE, harts, interruptKind, fenceKind, interruptSent}
+use Rattle.rules.specs.Names.{success, notSupported, invalidParam, invalidAddress, alreadyAvailable, alreadyStarted, alreadyStopped, noSharedMemory}
 use Rattle.rules.specs.Names.{notWellFormed, notEnabled, notStarted, shortMemory, stateForbids, notReportable}
 use Rattle.rules.specs.Platform.{width, enabled, platformAccepted, PlatformAccepted}
-use Rattle.rules.specs.Tables.{Tables, stateOf, ownAt, fresh, tablesWellFormed, TablesWellFormed, wellFormed}
-use Rattle.rules.specs.Replies.{Done, Reply, refused, failed, did, accepted, answerOf, actionsOf, memoryAfter}
-use Rattle.rules.specs.Masks.{selected, selectionFits, isReached, reached}
-use Rattle.rules.specs.Machine.{Operation, call, hartOf, reply, after}
+use Rattle.rules.specs.Tables.{Tables, stateOf, ownAt, counterAt, fresh, tablesWellFormed, TablesWellFormed, wellFormed}
+use Rattle.rules.specs.Replies.{Done, Reply, refused, failed, did, accepted, counted, answerOf, actionsOf, memoryAfter}
+use Rattle.rules.specs.Masks.{selected, selectionFits, isReached, reached, actionFor}
+use Rattle.rules.specs.Fences.{Fence, functionOf}
+use Rattle.rules.specs.Events.{sentEvent, Operands, nothing, range, rangeAndId, operandsOf, times, others, occurs}
+use Rattle.rules.specs.Machine.{Operation, call, event, hartOf, reply, after}
 use Rattle.rules.specs.Lives.{Event, Life, row, events, Reading, placed}
-use Rattle.rules.specs.Rows.{_does_, eventOf, tablesNow, rowNow, ready}
+use Rattle.rules.specs.Rows.{InRow, _does_, eventOf, tablesNow, rowNow, ready}
 use Rattle.rules.specs.Edges.{Edge, edges, computed}
 use Rattle.rules.specs.declared.platform.Platform.{Platform}
 use Rattle.rules.specs.declared.records.Hart.{Hart}
+use Rattle.rules.specs.declared.records.Counter.{Counter}
 use Rattle.rules.specs.declared.answers.Registers.{Registers}
 use Rattle.rules.specs.declared.answers.Answer.the-variants.{Pair}
 
@@ -124,6 +128,62 @@ pub record MaskExact (p : Platform) (m base : ℕ) : Type 0 where
 
 abbrev pub MasksExact : Type 0
 MasksExact = (p : Platform) (m base : ℕ) → MaskExact p m base
+
+-- the harts that an accepted call reaches, its actions and the event that it sends
+pub record Sends (p : Platform) (t : Tables) (q : Registers) (d : Done) (kind start size id sent : ℕ) : Type 0 where
+  pub told : d .told ≡ reached p (t .harts) (q .a0) (q .a1)
+  pub actions : d .actions ≡ map (actionFor kind start size id) (d .told)
+  pub code : d .code ≡ sent
+
+-- "Kinds: .. 2 interrupt (three zeros), 3 to 9 fences FID 0 to 6 (absent words 0; otherwise the arguments unaltered). One a
+-- reached hart, ascending." "Sent codes: interrupt 6; fences .." by the standard's names
+abbrev pub fenceSends : Platform → Tables → Registers → Done → Fence → Operands → Type 0
+fenceSends p t q d f nothing = Sends p t q d (fenceKind + functionOf f) 0 0 0 (sentEvent f)
+fenceSends p t q d f range = Sends p t q d (fenceKind + functionOf f) (q .a2) (q .a3) 0 (sentEvent f)
+fenceSends p t q d f rangeAndId = Sends p t q d (fenceKind + functionOf f) (q .a2) (q .a3) (q .a4) (sentEvent f)
+
+pub record CallsReach (p : Platform) (t : Tables) (room h : ℕ) (q : Registers) (d : Done) : Type 0 where
+  pub interrupts : q .a7 ≡ IPI → Sends p t q d interruptKind 0 0 0 interruptSent
+  pub fences : (f : Fence) → q .a7 ≡ RFENCE → q .a6 ≡ functionOf f → fenceSends p t q d f (operandsOf f)
+
+abbrev pub CallsReachExactly : Type 0
+CallsReachExactly = (p : Platform) (t : Tables) (room h : ℕ) (q : Registers) (d : Done) → reply p t (call room h q) ≡ did d → CallsReach p t room h q d
+
+-- ----- counters
+
+-- "An event adds one, going from 2^64 - 1 to 0, to every running counter of that hart mapped to its code", and to no other
+pub record CountsExactly (e : ℕ) (c : Counter) : Type 0 where
+  pub adds : c .running ≡ true → c .mapped ≡ true → c .code ≡ e
+      → counted e c ≡ record { mapped = c .mapped; code = c .code; running = c .running; value = (c .value + 1) % 2 ^ 64 }
+  pub stopped : c .running ≡ false → counted e c ≡ c
+  pub unmapped : c .mapped ≡ false → counted e c ≡ c
+  pub elsewhere : (c .code ≡ e → ⊥) → counted e c ≡ c
+
+abbrev pub EventsAddOne : Type 0
+EventsAddOne = (e : ℕ) (c : Counter) → CountsExactly e c
+
+-- an accepted reported event is counted in its own hart, and nothing else is altered
+pub record EventCounted (p : Platform) (t : Tables) (h e : ℕ) : Type 0 where
+  pub own : (i : ℕ) → counterAt (ownAt (after p t (event h e)) h) i ≡ counted e (counterAt (ownAt t h) i)
+  pub others : (k : ℕ) → (k ≡ h → ⊥) → ownAt (after p t (event h e)) k ≡ ownAt t k
+  pub harts : after p t (event h e) .harts ≡ t .harts
+
+abbrev pub EventsCounted : Type 0
+EventsCounted = (p : Platform) (t : Tables) (h e : ℕ) → accepted (reply p t (event h e)) ≡ true → EventCounted p t h e
+
+-- "For each reached hart other than the caller, the caller has one sent event and the target one received event. ..
+-- Received is sent + 1."
+pub record TrafficCounted (p : Platform) (t : Tables) (op : Operation) (d : Done) : Type 0 where
+  pub sent : (i : ℕ) → counterAt (ownAt (after p t op) (hartOf op)) i ≡ times (others (hartOf op) (d .told)) (counted (d .code)) (counterAt (d .own) i)
+  pub received : (k : ℕ) → (k ≡ hartOf op → ⊥)
+      → (i : ℕ) → counterAt (ownAt (after p t op) k) i ≡ times (occurs k (d .told)) (counted (d .code + 1)) (counterAt (ownAt t k) i)
+
+abbrev pub TrafficCountedExactly : Type 0
+TrafficCountedExactly = (p : Platform) (t : Tables) (op : Operation) (d : Done) → reply p t op ≡ did d → TrafficCounted p t op d
+
+-- "No change of state alters a counter (house)": an operation that stands in a row
+abbrev pub CountersOutliveStates : Type 0
+CountersOutliveStates = (p : Platform) (t : Tables) (op : Operation) (e : InRow) → eventOf op ≡ e ∷ [] → after p t op .counters ≡ t .counters
 
 -- ----- isolation
 

@@ -1,0 +1,89 @@
+-- A mask reaches exactly the harts that the rules name.
+use mathlib.Core.Path.{_≡_, sym, _∙_, subst}
+use mathlib.Core.Bool.{Bool, true, false}
+use mathlib.Core.List.{List, List·Memᴰ}
+use mathlib.Core.Logic.{_↔_}
+use Prim.Native.Nat.{ℕ, _+_, _<_, _≤_}
+use lib.Dec.{eqb}
+use borrow.Author.Tests.{eq-eqb, ne-eqb}
+use Rattle.rules.specs.Choice.{if_then_else_}
+use Rattle.rules.specs.Sets.{bit, ones, those, numbers, names, Ascending, keep, all}
+use Rattle.rules.specs.Names.{harts}
+use Rattle.rules.specs.Platform.{width, enabled}
+use Rattle.rules.specs.Masks.{selected, selectionFits, isReached, reached}
+use Rattle.rules.specs.Promises.{MaskExact, MasksExact}
+use Rattle.rules.specs.declared.platform.Platform.{Platform}
+use Rattle.rules.specs.declared.records.Hart.{Hart}
+use Rattle.rules.proofs.Logic.{if-true, if-false, if-both, clash, false-if}
+use Rattle.rules.proofs.SetLaws.{those-in, those-only}
+use Rattle.rules.proofs.Ascending.{those-ascending, numbers-ascending, keep-ascending, keep-in, keep-only, all-in, all-of, numbers-in, numbers-only, numbers-those}
+use Rattle.rules.proofs.WellFormed.{enabled-under, enabled-over}
+
+module _ (p : Platform) (m base : ℕ) where
+  -- ----- the two kinds of base
+
+  pub selected-everyone : base ≡ ones (width p) → selected p m base ≡ those harts (enabled p)
+  unfolding selected
+  selected-everyone e = if-true _ _ (eq-eqb _ _ e)
+
+  pub selected-named : (base ≡ ones (width p) → ⊥) → selected p m base ≡ numbers (width p) base m
+  unfolding selected
+  selected-named n = if-false _ _ (ne-eqb _ _ n)
+
+  -- ----- a selection that fits, hart by hart: the way that a loop over the harts goes
+
+  pub fits-in : (h : ℕ) → selectionFits p m base ≡ true → List·Memᴰ h (selected p m base) → enabled p h ≡ true
+  unfolding selectionFits
+  fits-in h f t = all-in (enabled p) (selected p m base) f t
+
+  pub selected-those : (base ≡ ones (width p) → ⊥) → selectionFits p m base ≡ true → selected p m base ≡ those harts (names (width p) base m)
+  selected-those n f =
+      selected-named n
+      ∙ numbers-those (width p) base m harts (λ h t. enabled-under p h (fits-in h f (subst (List·Memᴰ h) (sym (selected-named n)) t)))
+
+  -- ----- the promise
+
+  everyone : base ≡ ones (width p) → (h : ℕ) → List·Memᴰ h (selected p m base) ↔ (enabled p h ≡ true)
+  everyone e h = (
+    λ t. those-only (enabled p) harts h (subst (List·Memᴰ h) (selected-everyone e) t) .1,
+    λ on. subst (List·Memᴰ h) (sym (selected-everyone e)) (those-in (enabled p) harts h (enabled-under p h on) on),
+  )
+
+  named : (base ≡ ones (width p) → ⊥) → (h : ℕ) → List·Memᴰ h (selected p m base) ↔ ((i : ℕ) × (i < width p) × (bit m i ≡ true) × (h ≡ base + i))
+  named n h = (
+    λ t. numbers-only (width p) base m h (subst (List·Memᴰ h) (selected-named n) t),
+    λ r. subst (List·Memᴰ h) (sym (selected-named n))
+        (subst (λ (k : ℕ). List·Memᴰ k (numbers (width p) base m)) (sym (r .3)) (numbers-in (width p) base m (r .0) (r .1) (r .2))),
+  )
+
+  fits : selectionFits p m base ≡ true ↔ ((h : ℕ) → List·Memᴰ h (selected p m base) → enabled p h ≡ true)
+  unfolding selectionFits
+  fits = (λ f h t. fits-in h f t, λ f. all-of (enabled p) (selected p m base) f)
+
+  neverWraps : (base ≡ ones (width p) → ⊥) → (i : ℕ) → i < width p → bit m i ≡ true → harts ≤ base + i → selectionFits p m base ≡ false
+  neverWraps n i l b over =
+      false-if (selectionFits p m base)
+      (λ f. clash (fits-in (base + i) f (subst (List·Memᴰ (base + i)) (sym (selected-named n)) (numbers-in (width p) base m i l b))) (enabled-over p (base + i) over))
+
+  ascending : Ascending (selected p m base)
+  unfolding selected
+  ascending = if-both Ascending _ (λ _. those-ascending harts (enabled p)) (λ _. numbers-ascending (width p) base m)
+
+  reaches : (hs : List Hart) (h : ℕ) → List·Memᴰ h (reached p hs m base) ↔ (List·Memᴰ h (selected p m base) × (isReached hs h ≡ true))
+  unfolding reached
+  reaches hs h = (λ t. keep-only (isReached hs) (selected p m base) t, λ r. keep-in (isReached hs) (selected p m base) (r .0) (r .1))
+
+  reachedAscending : (hs : List Hart) → Ascending (reached p hs m base)
+  unfolding reached
+  reachedAscending hs = keep-ascending (isReached hs) 0 (selected p m base) ascending
+
+pub masks-exact : MasksExact
+masks-exact p m base = record {
+  everyone = everyone p m base;
+  named = named p m base;
+  fits = fits p m base;
+  neverWraps = neverWraps p m base;
+  ascending = ascending p m base;
+  reaches = reaches p m base;
+  reachedAscending = reachedAscending p m base;
+}

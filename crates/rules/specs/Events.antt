@@ -1,0 +1,43 @@
+-- Firmware events by the standard's names, and how often an event is counted. For the promises on counters alone.
+use mathlib.Core.List.{List, [], _∷_}
+use Prim.Native.Nat.{ℕ, zero, suc}
+use lib.Dec.{eqb}
+use Rattle.rules.specs.Choice.{if_then_else_}
+use Rattle.rules.specs.Fences.{Fence, FENCE-I, SFENCE-VMA, SFENCE-VMA-ASID, HFENCE-GVMA-VMID, HFENCE-GVMA, HFENCE-VVMA-ASID, HFENCE-VVMA}
+
+-- the code that the standard gives to each event "Sent .. request to other hart"
+abbrev pub sentEvent : Fence → ℕ
+sentEvent FENCE-I = 8
+sentEvent SFENCE-VMA = 10
+sentEvent SFENCE-VMA-ASID = 12
+sentEvent HFENCE-GVMA = 14
+sentEvent HFENCE-GVMA-VMID = 16
+sentEvent HFENCE-VVMA = 18
+sentEvent HFENCE-VVMA-ASID = 20
+
+-- the registers that each fence hands on: FENCE.I none, those with an ASID or VMID start, size and id, the others start and size
+pub data Operands : Type 0 where
+  nothing range rangeAndId : Operands
+
+abbrev pub operandsOf : Fence → Operands
+operandsOf FENCE-I = nothing
+operandsOf SFENCE-VMA = range
+operandsOf SFENCE-VMA-ASID = rangeAndId
+operandsOf HFENCE-GVMA-VMID = rangeAndId
+operandsOf HFENCE-GVMA = range
+operandsOf HFENCE-VVMA-ASID = rangeAndId
+operandsOf HFENCE-VVMA = range
+
+-- f, n times over
+unfoldable pub times : {A : Type 0} → ℕ → (A → A) → A → A
+times zero f c = c
+times (suc n) f c = times n f (f c)
+
+-- how many of some harts are not h, and how many are k
+unfoldable pub others : ℕ → List ℕ → ℕ
+others h [] = 0
+others h (k ∷ ks) = if eqb k h then others h ks else suc (others h ks)
+
+unfoldable pub occurs : ℕ → List ℕ → ℕ
+occurs k [] = 0
+occurs k (j ∷ ks) = if eqb j k then suc (occurs k ks) else occurs k ks
