@@ -14,7 +14,8 @@ use Rattle.rules.specs.Tables.{Tables, idle, hartAt, stateOf, TablesWell
 use Rattle.rules.specs.Replies.{View, view, Done, Reply, did, accepted, moves}
 use Rattle.rules.specs.Harts.{doneOf, wakeOf, startReply, stopReply, suspendReply, goesOn, doneReply, wakeReply}
 use Rattle.rules.specs.Requests.{LifeRequest, hartStart, hartStop, hartSuspend, Request, life, other, request}
-use Rattle.rules.specs.Machine.{lifeReply, requestReply, Operation, call, completion, waking, event, enabledReply, checkedReply}
+use Rattle.rules.specs.Machine.{lifeReply, requestReply, Operation, call, completion, waking, event}
+use Rattle.rules.specs.Machine.{enabledReply, checkedReply}
 use Rattle.rules.specs.Lives.{Event, start, done, wake}
 use Rattle.rules.specs.Rows.{_does_, lifeEvent, requestEvent, eventOf, passes, ready}
 use Rattle.rules.specs.declared.platform.Platform.{Platform}
@@ -23,7 +24,8 @@ use Rattle.rules.specs.declared.records.Next.{Next}
 use Rattle.rules.specs.declared.records.Next.the-variants.{To}
 use Rattle.rules.specs.declared.actions.Action.{Action}
 use Rattle.rules.proofs.Logic.{if-false, if-both, by-cases, below-or, and-l, and-r, or-right, not-of}
-use Rattle.rules.proofs.Readings.{Place, off, name, Goes, g-start, g-started, g-suspended, g-wake, g-woken, g-stopped}
+use Rattle.rules.proofs.Readings.{Place, off, name, Goes, g-start, g-started, g-suspended, g-wake, g-woken}
+use Rattle.rules.proofs.Readings.{g-stopped}
 use Rattle.rules.proofs.Effects.{Stands}
 
 pub data Accepted : Reply → Type 0 where

@@ -1,34 +1,21 @@
 -- What events do to the counters: the one that the host reports, and those of interrupts and fences.
-use mathlib.Core.Path.{_≡_, refl, ap, sym, _∙_, subst}
-use mathlib.Core.Bool.{Bool, true, false, not, _&&_}
+use mathlib.Core.Path.{_≡_, refl, ap, sym, _∙_}
+use mathlib.Core.Bool.{Bool}
 use mathlib.Core.List.{List, [], _∷_, map}
-use Prim.Native.Nat.{ℕ, zero, suc, _+_, _%_, _^_, _<_, _≤_}
-use native.Mathlib.Omega.{arith}
+use Prim.Native.Nat.{ℕ, _+_}
 use lib.Dec.{eqb}
-use lib.ListN.{getD, set, length, length-set, List·getD-eq-default}
-use lib.Seq.{getD-set-same, getD-set-other, set-getD, set-out}
-use borrow.Author.Tests.{eqb-true, eqb-false, eq-eqb, ne-eqb, not-false}
+use lib.ListN.{getD, set, length, List·getD-eq-default}
+use lib.Seq.{getD-set-same, getD-set-other, set-out}
+use borrow.Author.Tests.{eqb-true, eqb-false, eq-eqb, ne-eqb}
 use Rattle.rules.specs.Choice.{if_then_else_}
-use Rattle.rules.specs.Names.{harts}
-use Rattle.rules.specs.Platform.{enabled, platformAccepted}
-use Rattle.rules.specs.Tables.{Tables, blank, ownAt, counterAt, wellFormed, tablesWellFormed, TablesWellFormed}
-use Rattle.rules.specs.Replies.{View, view, Done, Reply, refused, failed, did, accepted, moves, gives, plain, counted, countAt, tellOne, tell, commit}
-use Rattle.rules.specs.Harts.{startReply, stopReply, suspendReply, goesOn, doneReply, wakeReply}
-use Rattle.rules.specs.Counters.{eventReply}
-use Rattle.rules.specs.Requests.{LifeRequest, hartStart, hartStop, hartSuspend, Request, life, other, request}
-use Rattle.rules.specs.Machine.{lifeReply, requestReply, Operation, call, completion, waking, event, hartOf, isShort, enabledReply, checkedReply, reply, after}
-use Rattle.rules.specs.Rows.{InRow, lifeEvent, requestEvent, eventOf}
+use Rattle.rules.specs.Tables.{counterAt}
+use Rattle.rules.specs.Replies.{counted, countAt, tellOne, tell}
 use Rattle.rules.specs.Events.{times, others, occurs}
-use Rattle.rules.specs.Promises.{CountsExactly, EventsAddOne, EventCounted, EventsCounted, TrafficCounted, TrafficCountedExactly, CountersOutliveStates}
-use Rattle.rules.specs.declared.platform.Platform.{Platform}
-use Rattle.rules.specs.declared.records.Hart.{Hart}
+use Rattle.rules.specs.Promises.{EventsAddOne}
 use Rattle.rules.specs.declared.records.Counter.{Counter}
-use Rattle.rules.specs.declared.records.Next.{Next}
-use Rattle.rules.specs.declared.records.Next.the-variants.{To, Forbidden}
-use Rattle.rules.specs.declared.actions.Action.{Action}
-use Rattle.rules.proofs.Logic.{if-true, if-false, if-both, by-cases, below-or, clash, false-true, false-if, and-l, and-r, and-of, not-of, same-test}
-use Rattle.rules.proofs.WellFormed.{enabled-under, tables-agree}
-use Rattle.rules.proofs.Own.{counted-blank, counted-at}
+use Rattle.rules.proofs.Logic.{if-true, if-false, by-cases, below-or, clash, false-if, and-l, and-r, and-of}
+use Rattle.rules.proofs.Logic.{same-test}
+use Rattle.rules.proofs.Own.{counted-at}
 
 -- ----- one event on one counter
 
@@ -97,7 +84,7 @@ module _ (h e : ℕ) where
       turn a b = same-test (eqb a b) (eqb b a) (λ y. eq-eqb b a (sym (eqb-true a b y))) (λ y. eq-eqb a b (sym (eqb-true b a y)))
 
   -- the caller's counters: one sent event for each other hart
-  tell-caller : (ks : List ℕ) (t : List (List Counter)) (i : ℕ)
+  pub tell-caller : (ks : List ℕ) (t : List (List Counter)) (i : ℕ)
       → counterAt (getD (tell h e ks t) h []) i ≡ times (others h ks) (counted e) (counterAt (getD t h []) i)
   unfolding tell times others
   tell-caller [] t i = refl
@@ -109,7 +96,7 @@ module _ (h e : ℕ) where
       (λ n. ap (times (others h ks) (counted e)) (if-false _ _ n) ∙ ap (λ (n : ℕ). times n (counted e) (counterAt (getD t h []) i)) (sym (if-false _ _ n)))
 
   -- another hart's counters: one received event each time that it is told
-  tell-other : (ks : List ℕ) (t : List (List Counter)) (j i : ℕ) → (j ≡ h → ⊥)
+  pub tell-other : (ks : List ℕ) (t : List (List Counter)) (j i : ℕ) → (j ≡ h → ⊥)
       → counterAt (getD (tell h e ks t) j []) i ≡ times (occurs j ks) (counted (e + 1)) (counterAt (getD t j []) i)
   unfolding tell times occurs
   tell-other [] t j i away = refl
@@ -121,59 +108,3 @@ module _ (h e : ℕ) where
       ∙ ap (λ (n : ℕ). times n (counted (e + 1)) (counterAt (getD t j []) i)) (sym (if-true _ _ y)))
       (λ n. ap (times (occurs j ks) (counted (e + 1))) (if-false _ _ n)
       ∙ ap (λ (n : ℕ). times n (counted (e + 1)) (counterAt (getD t j []) i)) (sym (if-false _ _ n)))
-
--- ----- an operation that is done was well formed, and its hart enabled
-
--- a choice that is done was not refused
-pub if-did : (b : Bool) (k : ℕ) (r : Reply) (d : Done) → (if b then refused k else r) ≡ did d → (b ≡ false) × (r ≡ did d)
-unfolding if_then_else_
-if-did true k r d e = let z : _≡_ {A = ℕ} 0 1 = cc in absurd (omega arith)
-if-did false k r d e = (refl, e)
-
-pub record Passed (p : Platform) (t : Tables) (op : Operation) (d : Done) : Type 0 where
-  pub fine : TablesWellFormed p t
-  pub on : enabled p (hartOf op) ≡ true
-  pub replied : enabledReply p (view t (hartOf op)) op ≡ did d
-
-pub did-passed : (p : Platform) (t : Tables) (op : Operation) (d : Done) → reply p t op ≡ did d → Passed p t op d
-unfolding reply checkedReply wellFormed
-did-passed p t op d e =
-    let a = if-did _ _ (checkedReply p t op) d e in
-    let b = if-did _ _ _ d (a .1) in
-    let c = if-did _ _ (enabledReply p (view t (hartOf op)) op) d (b .1) in
-    record {
-      fine = tables-agree p t .0 (and-r (platformAccepted p) (tablesWellFormed p t) (not-false _ (a .0)));
-      on = not-false _ (c .0);
-      replied = c .1;
-    }
-
--- ----- the promises
-
-module _ (p : Platform) (t : Tables) (op : Operation) (d : Done) (e : reply p t op ≡ did d) where
-  passed : Passed p t op d
-  passed = did-passed p t op d e
-
-  counters-after : after p t op .counters ≡ tell (hartOf op) (d .code) (d .told) (set (t .counters) (hartOf op) (d .own))
-  unfolding after commit
-  counters-after = ap (λ (r : Reply). commit t (hartOf op) r .counters) e
-
-  inside : hartOf op < length (t .counters)
-  inside = rw (passed .fine .rows) (enabled-under p (hartOf op) (passed .on))
-
-  traffic : TrafficCounted p t op d
-  unfolding ownAt
-  traffic = record {
-    sent = λ i.
-        ap (λ (cs : List (List Counter)). counterAt (getD cs (hartOf op) []) i) counters-after
-        ∙ tell-caller (hartOf op) (d .code) (d .told) (set (t .counters) (hartOf op) (d .own)) i
-        ∙ ap (λ (cs : List Counter). times (others (hartOf op) (d .told)) (counted (d .code)) (counterAt cs i))
-        (getD-set-same (t .counters) (hartOf op) (d .own) [] inside);
-    received = λ k away i.
-        ap (λ (cs : List (List Counter)). counterAt (getD cs k []) i) counters-after
-        ∙ tell-other (hartOf op) (d .code) (d .told) (set (t .counters) (hartOf op) (d .own)) k i away
-        ∙ ap (λ (cs : List Counter). times (occurs k (d .told)) (counted (d .code + 1)) (counterAt cs i))
-        (getD-set-other (t .counters) (hartOf op) k (d .own) [] away);
-  }
-
-pub traffic-counted-exactly : TrafficCountedExactly
-traffic-counted-exactly p t op d e = traffic p t op d e

@@ -11,11 +11,14 @@ use Rattle.rules.specs.Choice.{if_then_else_}
 use Rattle.rules.specs.Names.{STARTED}
 use Rattle.rules.specs.Platform.{enabled}
 use Rattle.rules.specs.Tables.{Tables, hartAt, stateOf}
-use Rattle.rules.specs.Replies.{View, view, Done, Reply, refused, failed, did, moves, Plain, fails, gives, sends, plain}
-use Rattle.rules.specs.Harts.{doneOf, wakeOf, suspendOf, startReply, stopReply, suspendReply, goesOn, wakeActions, doneReply, wakeReply}
+use Rattle.rules.specs.Replies.{View, view, Done, Reply, refused, failed, did, moves, Plain, fails, gives}
+use Rattle.rules.specs.Replies.{sends, plain}
+use Rattle.rules.specs.Harts.{doneOf, wakeOf, suspendOf, startReply, stopReply, suspendReply, goesOn}
+use Rattle.rules.specs.Harts.{wakeActions, doneReply, wakeReply}
 use Rattle.rules.specs.Counters.{eventReply}
 use Rattle.rules.specs.Requests.{LifeRequest, hartStart, hartStop, hartSuspend, Request, life, other, request}
-use Rattle.rules.specs.Machine.{lifeReply, plainReply, requestReply, Operation, call, completion, waking, event, hartOf, enabledReply, checkedReply, reply}
+use Rattle.rules.specs.Machine.{lifeReply, plainReply, requestReply, Operation, call, completion, waking, event}
+use Rattle.rules.specs.Machine.{hartOf, enabledReply, checkedReply, reply}
 use Rattle.rules.specs.Lives.{Event, suspend, done, wake}
 use Rattle.rules.specs.Rows.{InRow, _does_, lifeEvent, requestEvent, eventOf}
 use Rattle.rules.specs.declared.platform.Platform.{Platform}
@@ -24,8 +27,9 @@ use Rattle.rules.specs.declared.records.Next.{Next}
 use Rattle.rules.specs.declared.records.Next.the-variants.{To, Forbidden}
 use Rattle.rules.specs.declared.actions.Action.{Action}
 use Rattle.rules.proofs.Logic.{if-both}
-use Rattle.rules.proofs.Readings.{Place, off, starting, up, falling, asleep, waking as rising, stopping, name, one-name}
-use Rattle.rules.proofs.Readings.{Goes, g-start, g-started, g-suspend, g-suspended, g-wake, g-woken, g-stop, g-stopped}
+use Rattle.rules.proofs.Readings.{Place, off, starting, up, falling, asleep, waking as rising, stopping, name}
+use Rattle.rules.proofs.Readings.{one-name, Goes, g-start, g-started, g-suspend, g-suspended, g-wake, g-woken}
+use Rattle.rules.proofs.Readings.{g-stop, g-stopped}
 
 -- a hart's record stands at a place of its row
 pub record Stands (at : Place) (x : Hart) : Type 0 where

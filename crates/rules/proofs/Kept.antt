@@ -10,8 +10,8 @@ use borrow.Author.Tests.{not-false}
 use Rattle.rules.specs.Choice.{if_then_else_}
 use Rattle.rules.specs.Names.{harts, counters, STARTED, STOPPED}
 use Rattle.rules.specs.Platform.{enabled}
-use Rattle.rules.specs.Tables.{Tables, idle, blank, hartAt, ownAt, counterAt, fresh}
-use Rattle.rules.specs.Tables.{HartFine, OwnFine, TablesWellFormed}
+use Rattle.rules.specs.Tables.{Tables, idle, blank, hartAt, ownAt, counterAt, fresh, HartFine, OwnFine}
+use Rattle.rules.specs.Tables.{TablesWellFormed}
 use Rattle.rules.specs.Replies.{view, Reply, refused, failed, did, counted, countAt, tellOne, tell, commit}
 use Rattle.rules.specs.Machine.{Operation, hartOf, enabledReply, checkedReply, reply, after, afterAll}
 use Rattle.rules.specs.Rows.{InRow, eventOf}

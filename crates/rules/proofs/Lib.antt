@@ -14,4 +14,7 @@ pub mod Demand3
 pub mod Masks
 pub mod Refusals
 pub mod Counting
-pub mod Edges
+pub mod Passed
+pub mod Traffic
+pub mod Reach
+pub mod Theorems

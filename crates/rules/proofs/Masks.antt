@@ -1,22 +1,22 @@
 -- A mask reaches exactly the harts that the rules name.
 use mathlib.Core.Path.{_≡_, sym, _∙_, subst}
-use mathlib.Core.Bool.{Bool, true, false}
+use mathlib.Core.Bool.{true, false}
 use mathlib.Core.List.{List, List·Memᴰ}
 use mathlib.Core.Logic.{_↔_}
 use Prim.Native.Nat.{ℕ, _+_, _<_, _≤_}
-use lib.Dec.{eqb}
 use borrow.Author.Tests.{eq-eqb, ne-eqb}
 use Rattle.rules.specs.Choice.{if_then_else_}
-use Rattle.rules.specs.Sets.{bit, ones, those, numbers, names, Ascending, keep, all}
+use Rattle.rules.specs.Sets.{bit, ones, those, numbers, names, Ascending}
 use Rattle.rules.specs.Names.{harts}
 use Rattle.rules.specs.Platform.{width, enabled}
 use Rattle.rules.specs.Masks.{selected, selectionFits, isReached, reached}
-use Rattle.rules.specs.Promises.{MaskExact, MasksExact}
+use Rattle.rules.specs.Promises.{MasksExact}
 use Rattle.rules.specs.declared.platform.Platform.{Platform}
 use Rattle.rules.specs.declared.records.Hart.{Hart}
 use Rattle.rules.proofs.Logic.{if-true, if-false, if-both, clash, false-if}
 use Rattle.rules.proofs.SetLaws.{those-in, those-only}
-use Rattle.rules.proofs.Ascending.{those-ascending, numbers-ascending, keep-ascending, keep-in, keep-only, all-in, all-of, numbers-in, numbers-only, numbers-those}
+use Rattle.rules.proofs.Ascending.{those-ascending, numbers-ascending, keep-ascending, keep-in, keep-only}
+use Rattle.rules.proofs.Ascending.{all-in, all-of, numbers-in, numbers-only, numbers-those}
 use Rattle.rules.proofs.WellFormed.{enabled-under, enabled-over}
 
 module _ (p : Platform) (m base : ℕ) where

@@ -12,18 +12,24 @@ use borrow.Author.Tests.{leb-true, not-false}
 use Rattle.rules.specs.Choice.{if_then_else_}
 use Rattle.rules.specs.Sets.{bit, all}
 use Rattle.rules.specs.Names.{counters, firstEvent, lastEvent, lastCode}
-use Rattle.rules.specs.Tables.{blank, counterAt}
-use Rattle.rules.specs.Tables.{CounterFine}
-use Rattle.rules.specs.Replies.{View, Done, Reply, refused, failed, did, moves, Plain, fails, gives, sends, plain, counted}
+use Rattle.rules.specs.Tables.{blank, counterAt, CounterFine}
+use Rattle.rules.specs.Replies.{View, Done, Reply, refused, failed, did, moves, Plain, fails, gives, sends}
+use Rattle.rules.specs.Replies.{plain, counted}
 use Rattle.rules.specs.Masks.{sendTo}
 use Rattle.rules.specs.Fences.{interruptReply, fenceReply}
 use Rattle.rules.specs.Harts.{startReply, stopReply, statusReply, suspendReply, goesOn, doneReply, wakeReply}
-use Rattle.rules.specs.Counters.{counterSet, each, isMapped, isEvent, chosen, configured, configureChosen, begun, ended}
-use Rattle.rules.specs.Counters.{detailsReply, configureReply, counterStartReply, counterStopReply, readReply, readHighReply, eventReply}
-use Rattle.rules.specs.Requests.{hartStart, hartStop, hartSuspend, Request, life, other}
-use Rattle.rules.specs.Requests.{PlainRequest, baseVersion, baseImplementation, baseImplementationVersion, baseVendor, baseArchitecture, baseMachine, baseProbe}
-use Rattle.rules.specs.Requests.{interrupt, fence, hartStatus, counterCount, counterDetails, counterConfigure, counterStart, counterStop, counterRead, counterReadHigh, unknown}
-use Rattle.rules.specs.Machine.{lifeReply, plainReply, requestReply, Operation, call, completion, waking, event, enabledReply}
+use Rattle.rules.specs.Counters.{counterSet, each, isMapped, isEvent, chosen, configured, configureChosen}
+use Rattle.rules.specs.Counters.{begun, ended, detailsReply, configureReply, counterStartReply}
+use Rattle.rules.specs.Counters.{counterStopReply, readReply, readHighReply, eventReply}
+use Rattle.rules.specs.Requests.{hartStart, hartStop, hartSuspend, Request, life, other, PlainRequest}
+use Rattle.rules.specs.Requests.{baseVersion, baseImplementation, baseImplementationVersion, baseVendor}
+use Rattle.rules.specs.Requests.{baseArchitecture, baseMachine, baseProbe, interrupt, fence, hartStatus}
+use Rattle.rules.specs.Requests.{counterCount, counterDetails, counterConfigure, counterStart, counterStop}
+use Rattle.rules.specs.Requests.{counterRead, counterReadHigh, unknown}
+use Rattle.rules.specs.Machine.{lifeReply, plainReply, requestReply, Operation, call, completion, waking, event}
+use Rattle.rules.specs.Machine.{enabledReply}
+use Rattle.rules.specs.Promises.{ListedError, is-2, is-3, is-5, is-6, is-7, is-8, is-9, ListedRefusal, is-H3}
+use Rattle.rules.specs.Promises.{is-H5, is-H6}
 use Rattle.rules.specs.declared.platform.Platform.{Platform}
 use Rattle.rules.specs.declared.records.Hart.{Hart}
 use Rattle.rules.specs.declared.records.Counter.{Counter}
@@ -32,7 +38,6 @@ use Rattle.rules.specs.declared.records.Next.the-variants.{To, Forbidden
 use Rattle.rules.specs.declared.actions.Action.{Action}
 use Rattle.rules.proofs.Logic.{if-both, by-cases, clash, and-l, and-r, and-of, false-true}
 use Rattle.rules.proofs.Lists.{set-either}
-use Rattle.rules.specs.Promises.{ListedError, is-2, is-3, is-5, is-6, is-7, is-8, is-9, ListedRefusal, is-H3, is-H5, is-H6}
 
 -- ----- eight counters that are fine
 

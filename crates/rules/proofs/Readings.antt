@@ -4,8 +4,10 @@ use mathlib.Core.Path.{_≡_, refl, ap, ap₂, sym, _∙_, subst}
 use mathlib.Core.List.{List, [], _∷_, _++_}
 use Prim.Native.Nat.{ℕ, zero, suc, _≤_}
 use native.Mathlib.Omega.{arith}
-use Rattle.rules.specs.Lives.{Event, start, stop, suspend, done, wake, Mark, _named_, Round, sleep, rounds, Life, row, events, last, Reading, placed}
-use Rattle.rules.specs.Names.{STARTED, STOPPED, START-PENDING, STOP-PENDING, SUSPENDED, SUSPEND-PENDING, RESUME-PENDING}
+use Rattle.rules.specs.Lives.{Event, start, stop, suspend, done, wake, Mark, _named_, Round, sleep, rounds}
+use Rattle.rules.specs.Lives.{Life, row, events, last, Reading, placed}
+use Rattle.rules.specs.Names.{STARTED, STOPPED, START-PENDING, STOP-PENDING, SUSPENDED, SUSPEND-PENDING}
+use Rattle.rules.specs.Names.{RESUME-PENDING}
 
 pub data Place : Type 0 where
   off starting up falling asleep waking stopping : Place

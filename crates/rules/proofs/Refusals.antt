@@ -1,18 +1,19 @@
 -- Refusals alter nothing and are listed; two states that differ in other harts' counters alone get the same.
 use mathlib.Core.Path.{_≡_, refl, ap, sym, _∙_}
-use mathlib.Core.Bool.{Bool, true, false, not}
+use mathlib.Core.Bool.{false}
 use mathlib.Core.List.{List, []}
 use Prim.Native.Nat.{ℕ}
-use borrow.Author.Tests.{not-false, not-true}
+use borrow.Author.Tests.{not-false}
 use Rattle.rules.specs.Choice.{if_then_else_}
-use Rattle.rules.specs.Platform.{enabled, platformAccepted}
-use Rattle.rules.specs.Tables.{Tables, wellFormed, TablesWellFormed, tablesWellFormed}
-use Rattle.rules.specs.Replies.{view, Reply, refused, failed, did, accepted, answerOf, actionsOf, wordsOf, laid, memoryAfter, commit}
-use Rattle.rules.specs.Machine.{Operation, hartOf, isShort, enabledReply, checkedReply, reply, after}
-use Rattle.rules.specs.Promises.{Unaltered, RefusalsAlterNothing, Listed, listed-refusal, listed-error, no-refusal, RefusalsListed, is-H1, is-H2, is-H4}
-use Rattle.rules.specs.Promises.{Alike, SameOutcome, CountersApart}
+use Rattle.rules.specs.Platform.{platformAccepted}
+use Rattle.rules.specs.Tables.{Tables, wellFormed, tablesWellFormed}
+use Rattle.rules.specs.Replies.{view, Reply, refused, failed, did, accepted, answerOf, actionsOf, wordsOf, laid}
+use Rattle.rules.specs.Replies.{memoryAfter, commit}
+use Rattle.rules.specs.Machine.{Operation, hartOf, checkedReply, reply, after}
+use Rattle.rules.specs.Promises.{RefusalsAlterNothing, Listed, listed-refusal, listed-error, no-refusal}
+use Rattle.rules.specs.Promises.{RefusalsListed, is-H1, is-H2, is-H4, Alike, CountersApart}
 use Rattle.rules.specs.declared.platform.Platform.{Platform}
-use Rattle.rules.proofs.Logic.{if-true, if-false, if-both, and-l, and-r, not-of, false-true}
+use Rattle.rules.proofs.Logic.{if-false, if-both, and-r, not-of, false-true}
 use Rattle.rules.proofs.WellFormed.{enabled-under, tables-agree}
 use Rattle.rules.proofs.Own.{ReplyFine, r-refused, r-failed, r-did, enabled-fine}
 

@@ -21,7 +21,8 @@ use Rattle.rules.proofs.Logic.{if-both}
 use Rattle.rules.proofs.Lists.{getD-repeat}
 use Rattle.rules.proofs.WellFormed.{enabled-under}
 use Rattle.rules.proofs.Readings.{Place, off, up, name, Goes, g-start, g-started, Run, here, next}
-use Rattle.rules.proofs.Effects.{Stands, Effect, still, moved, Lawful, l-refused, l-failed, l-did, reply-lawful}
+use Rattle.rules.proofs.Effects.{Stands, Effect, still, moved, Lawful, l-refused, l-failed, l-did}
+use Rattle.rules.proofs.Effects.{reply-lawful}
 use Rattle.rules.proofs.Kept.{after-kept}
 
 -- after some events es of hart h, its record in hs stands where a run of these events ends

@@ -11,15 +11,18 @@ use borrow.Author.Tests.{ltb-true, leb-true, eqb-true, lt-ltb, le-ltb, le-leb, e
 use Rattle.rules.specs.Choice.{if_then_else_}
 use Rattle.rules.specs.Sets.{every}
 use Rattle.rules.specs.Names.{harts, counters, lastCode, STOPPED, RESUME-PENDING}
-use Rattle.rules.specs.Platform.{has, enabled, hypervisor, width, usedRanges, rangeAccepted, platformAccepted, PlatformAccepted}
-use Rattle.rules.specs.Tables.{Tables, idle, blank, hartAt, ownAt, counterAt, isIdle, isBlank, hartWellFormed, counterWellFormed, shaped, hartRowWellFormed, tablesWellFormed}
-use Rattle.rules.specs.Tables.{CounterFine, HartFine, OwnFine, TablesWellFormed}
+use Rattle.rules.specs.Platform.{has, enabled, hypervisor, width, usedRanges, rangeAccepted, platformAccepted}
+use Rattle.rules.specs.Platform.{PlatformAccepted}
+use Rattle.rules.specs.Tables.{Tables, idle, blank, hartAt, ownAt, counterAt, isIdle, isBlank, hartWellFormed}
+use Rattle.rules.specs.Tables.{counterWellFormed, shaped, hartRowWellFormed, tablesWellFormed, CounterFine}
+use Rattle.rules.specs.Tables.{HartFine, OwnFine, TablesWellFormed}
 use Rattle.rules.specs.declared.platform.HartSet.{HartSet}
 use Rattle.rules.specs.declared.platform.Range.{Range}
 use Rattle.rules.specs.declared.platform.Platform.{Platform}
 use Rattle.rules.specs.declared.records.Hart.{Hart}
 use Rattle.rules.specs.declared.records.Counter.{Counter}
-use Rattle.rules.proofs.Logic.{if-true, if-false, by-cases, below-or, clash, false-if, and-l, and-r, and-of, not-or, not-or-inv, not-off}
+use Rattle.rules.proofs.Logic.{if-true, if-false, by-cases, below-or, clash, false-if, and-l, and-r, and-of}
+use Rattle.rules.proofs.Logic.{not-or, not-or-inv, not-off}
 use Rattle.rules.proofs.SetLaws.{every-at, every-of}
 use Rattle.rules.proofs.Ascending.{all-in, all-of}
 

@@ -10,7 +10,8 @@ use lib.ListN.{set}
 use Rattle.rules.specs.Choice.{if_then_else_}
 use Rattle.rules.specs.Sets.{bit, numbers, keep, all, first}
 use Rattle.rules.specs.Names.{counters, firstEvent, lastEvent, lastReported, notReportable}
-use Rattle.rules.specs.Names.{notSupported, invalidParam, alreadyStarted, alreadyStopped, noSharedMemory}
+use Rattle.rules.specs.Names.{notSupported, invalidParam, alreadyStarted, alreadyStopped}
+use Rattle.rules.specs.Names.{noSharedMemory}
 use Rattle.rules.specs.Platform.{width}
 use Rattle.rules.specs.Tables.{counterAt}
 use Rattle.rules.specs.Replies.{View, Reply, refused, Plain, fails, gives, plain, counted}

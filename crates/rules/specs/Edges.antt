@@ -5,16 +5,29 @@ use lib.IntN.{ℤ}
 use lib.ListN.{replicate}
 use Rattle.rules.specs.Choice.{if_then_else_}
 use Rattle.rules.specs.Sets.{bit, every, those, numbers, first, keep, all, any}
-use Rattle.rules.specs.Names.{IPI, RFENCE, HSM, PMU, success, notSupported, invalidParam, invalidAddress, alreadyAvailable}
-use Rattle.rules.specs.Platform.{has, enabled, hypervisor, usedRanges, liesIn, validAddress, rangeAccepted, platformAccepted}
-use Rattle.rules.specs.Tables.{hartAt, ownAt, counterAt, fresh, isIdle, isBlank, hartWellFormed, counterWellFormed, shaped, hartRowWellFormed, tablesWellFormed, wellFormed}
-use Rattle.rules.specs.Replies.{view, Reply, refused, failed, did, moves, plain, counted, countAt, tellOne, tell, commit}
+use Rattle.rules.specs.Names.{IPI, RFENCE, HSM, PMU, success, notSupported, invalidParam}
+use Rattle.rules.specs.Names.{invalidAddress, alreadyAvailable}
+use Rattle.rules.specs.Platform.{has, enabled, hypervisor, usedRanges, liesIn, validAddress}
+use Rattle.rules.specs.Platform.{rangeAccepted, platformAccepted}
+use Rattle.rules.specs.Tables.{hartAt, ownAt, counterAt, fresh, isIdle, isBlank}
+use Rattle.rules.specs.Tables.{hartWellFormed, counterWellFormed, shaped, hartRowWellFormed}
+use Rattle.rules.specs.Tables.{tablesWellFormed, wellFormed}
+use Rattle.rules.specs.Replies.{view, Reply, refused, failed, did, moves, plain, counted}
+use Rattle.rules.specs.Replies.{countAt, tellOne, tell, commit}
 use Rattle.rules.specs.Masks.{selected, selectionFits, isReached, reached, sendTo}
-use Rattle.rules.specs.Fences.{sentCode, idValid, needsHypervisor, rangeValid, interruptReply, fenceReply}
-use Rattle.rules.specs.Harts.{doneOf, suspendOf, startReply, suspendReply, goesOn, doneReply}
-use Rattle.rules.specs.Counters.{counterSet, isCounter, each, isMapped, isRunning, notRunning, isEvent, chosen, configured, configureChosen, configureReply, begun, counterStartReply, canRead, readReply, eventReply}
-use Rattle.rules.specs.Requests.{interruptRequest, fenceRequest, hartRequest, counterRequest, request}
-use Rattle.rules.specs.Machine.{lifeReply, plainReply, requestReply, Operation, call, completion, event, enabledReply, checkedReply, reply, after, afterAll}
+use Rattle.rules.specs.Fences.{sentCode, idValid, needsHypervisor, rangeValid}
+use Rattle.rules.specs.Fences.{interruptReply, fenceReply}
+use Rattle.rules.specs.Harts.{doneOf, suspendOf, startReply, suspendReply, goesOn}
+use Rattle.rules.specs.Harts.{doneReply}
+use Rattle.rules.specs.Counters.{counterSet, isCounter, each, isMapped, isRunning}
+use Rattle.rules.specs.Counters.{notRunning, isEvent, chosen, configured, configureChosen}
+use Rattle.rules.specs.Counters.{configureReply, begun, counterStartReply, canRead}
+use Rattle.rules.specs.Counters.{readReply, eventReply}
+use Rattle.rules.specs.Requests.{interruptRequest, fenceRequest, hartRequest}
+use Rattle.rules.specs.Requests.{counterRequest, request}
+use Rattle.rules.specs.Machine.{lifeReply, plainReply, requestReply, Operation, call}
+use Rattle.rules.specs.Machine.{completion, event, enabledReply, checkedReply, reply, after}
+use Rattle.rules.specs.Machine.{afterAll}
 use Rattle.rules.specs.declared.platform.HartSet.{HartSet}
 use Rattle.rules.specs.declared.platform.Platform.{Platform}
 use Rattle.rules.specs.declared.actions.Action.{Action}

@@ -3,7 +3,9 @@ use mathlib.Core.List.{List, [], _∷_}
 use Prim.Native.Nat.{ℕ, zero, suc}
 use lib.Dec.{eqb}
 use Rattle.rules.specs.Choice.{if_then_else_}
-use Rattle.rules.specs.Fences.{Fence, FENCE-I, SFENCE-VMA, SFENCE-VMA-ASID, HFENCE-GVMA-VMID, HFENCE-GVMA, HFENCE-VVMA-ASID, HFENCE-VVMA}
+use Rattle.rules.specs.Fences.{Fence, FENCE-I, SFENCE-VMA, SFENCE-VMA-ASID}
+use Rattle.rules.specs.Fences.{HFENCE-GVMA-VMID, HFENCE-GVMA, HFENCE-VVMA-ASID, HFENCE-VVMA}
+use Rattle.rules.specs.declared.answers.Registers.{Registers}
 
 -- the code that the standard gives to each event "Sent .. request to other hart"
 abbrev pub sentEvent : Fence → ℕ
@@ -15,7 +17,7 @@ sentEvent HFENCE-GVMA-VMID = 16
 sentEvent HFENCE-VVMA = 18
 sentEvent HFENCE-VVMA-ASID = 20
 
--- the registers that each fence hands on: FENCE.I none, those with an ASID or VMID start, size and id, the others start and size
+-- what each fence hands on of its arguments: FENCE.I nothing, those with an ASID or VMID that too
 pub data Operands : Type 0 where
   nothing range rangeAndId : Operands
 
@@ -27,6 +29,22 @@ operandsOf HFENCE-GVMA-VMID = rangeAndId
 operandsOf HFENCE-GVMA = range
 operandsOf HFENCE-VVMA-ASID = rangeAndId
 operandsOf HFENCE-VVMA = range
+
+-- "absent words 0; otherwise the arguments unaltered"
+abbrev pub startIn : Operands → Registers → ℕ
+startIn nothing q = 0
+startIn range q = q .a2
+startIn rangeAndId q = q .a2
+
+abbrev pub sizeIn : Operands → Registers → ℕ
+sizeIn nothing q = 0
+sizeIn range q = q .a3
+sizeIn rangeAndId q = q .a3
+
+abbrev pub idIn : Operands → Registers → ℕ
+idIn nothing q = 0
+idIn range q = 0
+idIn rangeAndId q = q .a4
 
 -- f, n times over
 unfoldable pub times : {A : Type 0} → ℕ → (A → A) → A → A

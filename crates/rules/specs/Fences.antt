@@ -7,7 +7,8 @@ use lib.Dec.{ltb, leb, eqb}
 use lib.ListN.{getD}
 use Rattle.rules.specs.Choice.{if_then_else_}
 use Rattle.rules.specs.Sets.{ones, all}
-use Rattle.rules.specs.Names.{interruptKind, fenceKind, interruptSent, notSupported, invalidParam, invalidAddress}
+use Rattle.rules.specs.Names.{interruptKind, fenceKind, interruptSent, notSupported}
+use Rattle.rules.specs.Names.{invalidParam, invalidAddress}
 use Rattle.rules.specs.Platform.{width, hypervisor}
 use Rattle.rules.specs.Masks.{selected, selectionFits, reached, sendTo}
 use Rattle.rules.specs.Replies.{View, Plain, fails}

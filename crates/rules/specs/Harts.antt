@@ -5,11 +5,14 @@ use Prim.Native.Nat.{ℕ}
 use lib.Dec.{eqb}
 use lib.ListN.{set}
 use Rattle.rules.specs.Choice.{if_then_else_}
-use Rattle.rules.specs.Names.{STARTED, STOPPED, START-PENDING, STOP-PENDING, SUSPENDED, SUSPEND-PENDING, RESUME-PENDING}
-use Rattle.rules.specs.Names.{retentiveType, nonRetentiveType, invalidParam, invalidAddress, alreadyAvailable, stateForbids}
+use Rattle.rules.specs.Names.{STARTED, STOPPED, START-PENDING, STOP-PENDING, SUSPENDED}
+use Rattle.rules.specs.Names.{SUSPEND-PENDING, RESUME-PENDING, retentiveType}
+use Rattle.rules.specs.Names.{nonRetentiveType, invalidParam, invalidAddress}
+use Rattle.rules.specs.Names.{alreadyAvailable, stateForbids}
 use Rattle.rules.specs.Platform.{enabled, validAddress}
 use Rattle.rules.specs.Tables.{idle, inState, hartAt, stateOf}
-use Rattle.rules.specs.Replies.{View, Reply, refused, failed, moves, Plain, fails, gives, enter}
+use Rattle.rules.specs.Replies.{View, Reply, refused, failed, moves, Plain, fails, gives}
+use Rattle.rules.specs.Replies.{enter}
 use Rattle.rules.specs.declared.platform.Platform.{Platform}
 use Rattle.rules.specs.declared.records.Hart.{Hart}
 use Rattle.rules.specs.declared.records.Next.{Next}

@@ -3,7 +3,8 @@
 use mathlib.Core.Path.{_≡_}
 use mathlib.Core.List.{List, [], _∷_, _++_, map}
 use Prim.Native.Nat.{ℕ}
-use Rattle.rules.specs.Names.{STARTED, STOPPED, START-PENDING, STOP-PENDING, SUSPENDED, SUSPEND-PENDING, RESUME-PENDING}
+use Rattle.rules.specs.Names.{STARTED, STOPPED, START-PENDING, STOP-PENDING, SUSPENDED}
+use Rattle.rules.specs.Names.{SUSPEND-PENDING, RESUME-PENDING}
 
 pub data Event : Type 0 where
   start stop suspend done wake : Event

@@ -7,17 +7,25 @@ use mathlib.Core.List.{List, [], _∷_}
 use Prim.Native.Nat.{ℕ}
 use lib.Dec.{ltb, eqb}
 use Rattle.rules.specs.Choice.{if_then_else_}
-use Rattle.rules.specs.Names.{actionMemory, counters, STARTED, notSupported, notWellFormed, notEnabled, notStarted, shortMemory}
+use Rattle.rules.specs.Names.{actionMemory, counters, STARTED, notSupported, notWellFormed}
+use Rattle.rules.specs.Names.{notEnabled, notStarted, shortMemory}
 use Rattle.rules.specs.Platform.{enabled}
 use Rattle.rules.specs.Tables.{Tables, stateOf, wellFormed}
-use Rattle.rules.specs.Replies.{View, view, Reply, refused, Plain, fails, gives, plain, commit}
+use Rattle.rules.specs.Replies.{View, view, Reply, refused, Plain, fails, gives, plain}
+use Rattle.rules.specs.Replies.{commit}
 use Rattle.rules.specs.Base.{specVersion, probed}
 use Rattle.rules.specs.Fences.{interruptReply, fenceReply}
-use Rattle.rules.specs.Harts.{startReply, stopReply, statusReply, suspendReply, doneReply, wakeReply}
-use Rattle.rules.specs.Counters.{detailsReply, configureReply, counterStartReply, counterStopReply, readReply, readHighReply, eventReply}
-use Rattle.rules.specs.Requests.{LifeRequest, hartStart, hartStop, hartSuspend, Request, life, other, request}
-use Rattle.rules.specs.Requests.{PlainRequest, baseVersion, baseImplementation, baseImplementationVersion, baseVendor, baseArchitecture, baseMachine, baseProbe}
-use Rattle.rules.specs.Requests.{interrupt, fence, hartStatus, counterCount, counterDetails, counterConfigure, counterStart, counterStop, counterRead, counterReadHigh, unknown}
+use Rattle.rules.specs.Harts.{startReply, stopReply, statusReply, suspendReply, doneReply}
+use Rattle.rules.specs.Harts.{wakeReply}
+use Rattle.rules.specs.Counters.{detailsReply, configureReply, counterStartReply}
+use Rattle.rules.specs.Counters.{counterStopReply, readReply, readHighReply, eventReply}
+use Rattle.rules.specs.Requests.{LifeRequest, hartStart, hartStop, hartSuspend, Request}
+use Rattle.rules.specs.Requests.{life, other, request, PlainRequest, baseVersion}
+use Rattle.rules.specs.Requests.{baseImplementation, baseImplementationVersion, baseVendor}
+use Rattle.rules.specs.Requests.{baseArchitecture, baseMachine, baseProbe, interrupt, fence}
+use Rattle.rules.specs.Requests.{hartStatus, counterCount, counterDetails, counterConfigure}
+use Rattle.rules.specs.Requests.{counterStart, counterStop, counterRead, counterReadHigh}
+use Rattle.rules.specs.Requests.{unknown}
 use Rattle.rules.specs.declared.platform.Platform.{Platform}
 use Rattle.rules.specs.declared.answers.Registers.{Registers}
 

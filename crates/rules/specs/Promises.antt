@@ -4,18 +4,23 @@ use mathlib.Core.Path.{_≡_}
 use mathlib.Core.Bool.{true, false}
 use mathlib.Core.List.{List, [], _∷_, _++_, map, List·Memᴰ}
 use mathlib.Core.Logic.{_↔_}
-use lib.IntN.{ℤ}
 use Prim.Native.Nat.{ℕ, _+_, _^_, _%_, _<_, _≤_}
+use lib.IntN.{ℤ}
 use Rattle.rules.specs.Sets.{bit, ones, Ascending}
-use Rattle.rules.specs.Names.{HSM, IPI, RFENCE, harts, interruptKind, fenceKind, interruptSent}
-use Rattle.rules.specs.Names.{success, notSupported, invalidParam, invalidAddress, alreadyAvailable, alreadyStarted, alreadyStopped, noSharedMemory}
-use Rattle.rules.specs.Names.{notWellFormed, notEnabled, notStarted, shortMemory, stateForbids, notReportable}
+use Rattle.rules.specs.Names.{HSM, IPI, RFENCE, harts, interruptKind, fenceKind}
+use Rattle.rules.specs.Names.{interruptSent, success, notSupported, invalidParam}
+use Rattle.rules.specs.Names.{invalidAddress, alreadyAvailable, alreadyStarted}
+use Rattle.rules.specs.Names.{alreadyStopped, noSharedMemory, notWellFormed, notEnabled}
+use Rattle.rules.specs.Names.{notStarted, shortMemory, stateForbids, notReportable}
 use Rattle.rules.specs.Platform.{width, enabled, platformAccepted, PlatformAccepted}
-use Rattle.rules.specs.Tables.{Tables, stateOf, ownAt, counterAt, fresh, tablesWellFormed, TablesWellFormed, wellFormed}
-use Rattle.rules.specs.Replies.{Done, Reply, refused, failed, did, accepted, counted, answerOf, actionsOf, memoryAfter}
+use Rattle.rules.specs.Tables.{Tables, stateOf, ownAt, counterAt, fresh, tablesWellFormed}
+use Rattle.rules.specs.Tables.{TablesWellFormed, wellFormed}
+use Rattle.rules.specs.Replies.{Done, Reply, refused, failed, did, accepted, counted}
+use Rattle.rules.specs.Replies.{answerOf, actionsOf, memoryAfter}
 use Rattle.rules.specs.Masks.{selected, selectionFits, isReached, reached, actionFor}
 use Rattle.rules.specs.Fences.{Fence, functionOf}
-use Rattle.rules.specs.Events.{sentEvent, Operands, nothing, range, rangeAndId, operandsOf, times, others, occurs}
+use Rattle.rules.specs.Events.{sentEvent, operandsOf, startIn, sizeIn, idIn, times, others}
+use Rattle.rules.specs.Events.{occurs}
 use Rattle.rules.specs.Machine.{Operation, call, event, hartOf, reply, after}
 use Rattle.rules.specs.Lives.{Event, Life, row, events, Reading, placed}
 use Rattle.rules.specs.Rows.{InRow, _does_, eventOf, tablesNow, rowNow, ready}
@@ -137,17 +142,13 @@ pub record Sends (p : Platform) (t : Tables) (q : Registers) (d : Done) (kind st
 
 -- "Kinds: .. 2 interrupt (three zeros), 3 to 9 fences FID 0 to 6 (absent words 0; otherwise the arguments unaltered). One a
 -- reached hart, ascending." "Sent codes: interrupt 6; fences .." by the standard's names
-abbrev pub fenceSends : Platform → Tables → Registers → Done → Fence → Operands → Type 0
-fenceSends p t q d f nothing = Sends p t q d (fenceKind + functionOf f) 0 0 0 (sentEvent f)
-fenceSends p t q d f range = Sends p t q d (fenceKind + functionOf f) (q .a2) (q .a3) 0 (sentEvent f)
-fenceSends p t q d f rangeAndId = Sends p t q d (fenceKind + functionOf f) (q .a2) (q .a3) (q .a4) (sentEvent f)
-
-pub record CallsReach (p : Platform) (t : Tables) (room h : ℕ) (q : Registers) (d : Done) : Type 0 where
+pub record CallsReach (p : Platform) (t : Tables) (q : Registers) (d : Done) : Type 0 where
   pub interrupts : q .a7 ≡ IPI → Sends p t q d interruptKind 0 0 0 interruptSent
-  pub fences : (f : Fence) → q .a7 ≡ RFENCE → q .a6 ≡ functionOf f → fenceSends p t q d f (operandsOf f)
+  pub fences : (f : Fence) → q .a7 ≡ RFENCE → q .a6 ≡ functionOf f
+      → Sends p t q d (fenceKind + functionOf f) (startIn (operandsOf f) q) (sizeIn (operandsOf f) q) (idIn (operandsOf f) q) (sentEvent f)
 
 abbrev pub CallsReachExactly : Type 0
-CallsReachExactly = (p : Platform) (t : Tables) (room h : ℕ) (q : Registers) (d : Done) → reply p t (call room h q) ≡ did d → CallsReach p t room h q d
+CallsReachExactly = (p : Platform) (t : Tables) (room h : ℕ) (q : Registers) (d : Done) → reply p t (call room h q) ≡ did d → CallsReach p t q d
 
 -- ----- counters
 

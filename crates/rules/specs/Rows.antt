@@ -8,8 +8,10 @@ use Rattle.rules.specs.Names.{STARTED, actionMemory, retentiveType, nonR
 use Rattle.rules.specs.Platform.{validAddress}
 use Rattle.rules.specs.Tables.{Tables, stateOf, fresh}
 use Rattle.rules.specs.Replies.{accepted}
-use Rattle.rules.specs.Requests.{LifeRequest, hartStart, hartStop, hartSuspend, Request, life, other, request}
-use Rattle.rules.specs.Machine.{Operation, call, completion, waking, event, reply, after, afterAll}
+use Rattle.rules.specs.Requests.{LifeRequest, hartStart, hartStop, hartSuspend, Request}
+use Rattle.rules.specs.Requests.{life, other, request}
+use Rattle.rules.specs.Machine.{Operation, call, completion, waking, event, reply, after}
+use Rattle.rules.specs.Machine.{afterAll}
 use Rattle.rules.specs.Lives.{Event, start, stop, suspend, done, wake}
 use Rattle.rules.specs.declared.platform.Platform.{Platform}
 

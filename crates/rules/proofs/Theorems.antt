@@ -1,0 +1,90 @@
+-- A theorem for each statement of specs/Promises, under its name. Assumes nothing.
+use mathlib.Core.Path.{refl}
+use Rattle.rules.specs.Edges.{computed, edges}
+use Rattle.rules.specs.Tables.{wellFormed}
+use Rattle.rules.specs.Machine.{after}
+use Rattle.rules.specs.Platform.{platformAccepted}
+use Rattle.rules.specs.Promises.{LivesHold, ReadOnce, RefusalsAlterNothing, RefusalsListed, PlatformTestAgrees}
+use Rattle.rules.specs.Promises.{TablesTestAgrees, FreshWellFormed, WellFormedKept, MasksExact}
+use Rattle.rules.specs.Promises.{CallsReachExactly, EventsAddOne, EventsCounted, TrafficCountedExactly}
+use Rattle.rules.specs.Promises.{CountersOutliveStates, CountersApart, EdgesHold}
+use Rattle.rules.proofs.Logic.{and-l, and-r, and-of}
+use Rattle.rules.proofs.WellFormed.{platform-agrees, tables-agree}
+use Rattle.rules.proofs.Readings.{one-reading, one-row}
+use Rattle.rules.proofs.Kept.{after-kept, fresh-fine}
+use Rattle.rules.proofs.Demand3 as Demand3
+use Rattle.rules.proofs.Masks as Masks
+use Rattle.rules.proofs.Refusals as Refusals
+use Rattle.rules.proofs.Reach as Reach
+use Rattle.rules.proofs.Counting as Counting
+use Rattle.rules.proofs.Traffic as Traffic
+
+-- each enabled hart's accepted events are the start of a row of lives, its status is the one its place names, what fits
+-- and is ready is accepted, and what does not fit is refused
+pub lives-hold : LivesHold
+lives-hold = Demand3.lives-hold
+
+-- any two readings of a row are equal
+pub read-once : ReadOnce
+read-once = record { fronts = λ es r s. one-reading r s; rows = one-row }
+
+-- every refusal and every error pair leaves the tables and the action memory as they were
+pub refusals-alter-nothing : RefusalsAlterNothing
+refusals-alter-nothing = Refusals.refusals-alter-nothing
+
+-- every refusal and every error is one that document 01 lists
+pub refusals-listed : RefusalsListed
+refusals-listed = Refusals.refusals-listed
+
+-- the test of a platform says what its statement says
+pub platform-test-agrees : PlatformTestAgrees
+platform-test-agrees = platform-agrees
+
+-- the test of tables says what its statement says
+pub tables-test-agrees : TablesTestAgrees
+tables-test-agrees = tables-agree
+
+-- fresh tables of an accepted platform are well formed
+pub fresh-well-formed : FreshWellFormed
+unfolding wellFormed
+fresh-well-formed p ok = and-of ok (tables-agree p _ .1 (fresh-fine p (platform-agrees p .0 ok .boot)))
+
+-- every operation keeps tables well formed
+pub well-formed-kept : WellFormedKept
+unfolding wellFormed
+well-formed-kept p t op w =
+    and-of (and-l (platformAccepted p) _ w)
+    (tables-agree p (after p t op) .1 (after-kept p t op (tables-agree p t .0 (and-r (platformAccepted p) _ w))))
+
+-- a mask selects and reaches exactly the harts that the rules name, ascending, with no sum that wraps
+pub masks-exact : MasksExact
+masks-exact = Masks.masks-exact
+
+-- an accepted interrupt or fence reaches those harts, with the actions and the event that document 01 lists
+pub calls-reach-exactly : CallsReachExactly
+calls-reach-exactly = Reach.calls-reach-exactly
+
+-- an event adds one modulo 2^64 to exactly the running counters on its code
+pub events-add-one : EventsAddOne
+events-add-one = Counting.events-add-one
+
+-- an accepted reported event is counted in its own hart, and alters nothing else
+pub events-counted : EventsCounted
+events-counted = Traffic.events-counted
+
+-- for each reached hart other than the caller, one sent event and one received event
+pub traffic-counted-exactly : TrafficCountedExactly
+traffic-counted-exactly = Traffic.traffic-counted-exactly
+
+-- no change of a hart's state alters a counter
+pub counters-outlive-states : CountersOutliveStates
+counters-outlive-states = Traffic.counters-outlive-states
+
+-- an operation shows nothing of other harts' counters
+pub counters-apart : CountersApart
+counters-apart = Refusals.counters-apart
+
+-- P1 to P12
+pub edges-hold : EdgesHold
+unfolding computed edges
+edges-hold = refl
