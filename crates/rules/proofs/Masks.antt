@@ -4,13 +4,14 @@ use mathlib.Core.Bool.{true, false}
 use mathlib.Core.List.{List, List·Memᴰ}
 use mathlib.Core.Logic.{_↔_}
 use Prim.Native.Nat.{ℕ, _+_, _<_, _≤_}
-use borrow.Author.Tests.{eq-eqb, ne-eqb}
+use borrow.Author.Tests.{eq-eqb, ne-eqb, le-ltb}
 use Rattle.rules.specs.Choice.{if_then_else_}
-use Rattle.rules.specs.Sets.{bit, ones, those, numbers, names, Ascending}
-use Rattle.rules.specs.Names.{harts}
+use Rattle.rules.specs.Sets.{bit, ones, those, numbers, names, Ascending, all}
+use Rattle.rules.specs.Names.{harts, counters}
 use Rattle.rules.specs.Platform.{width, enabled}
 use Rattle.rules.specs.Masks.{selected, selectionFits, isReached, reached}
-use Rattle.rules.specs.Promises.{MasksExact}
+use Rattle.rules.specs.Counters.{counterSet, isCounter}
+use Rattle.rules.specs.Promises.{CounterSetsExact, MasksExact}
 use Rattle.rules.specs.declared.platform.Platform.{Platform}
 use Rattle.rules.specs.declared.records.Hart.{Hart}
 use Rattle.rules.proofs.Logic.{if-true, if-false, if-both, clash, false-if}
@@ -86,4 +87,21 @@ masks-exact p m base = record {
   ascending = ascending p m base;
   reaches = reaches p m base;
   reachedAscending = reachedAscending p m base;
+}
+
+-- ----- sets of counters: the same numbers, with no base that means all
+
+pub counter-sets-exact : CounterSetsExact
+unfolding counterSet isCounter
+counter-sets-exact p base m = record {
+  members = λ k. (
+    λ t. numbers-only (width p) base m k t,
+    λ r. subst (λ (j : ℕ). List·Memᴰ j (numbers (width p) base m)) (sym (r .3)) (numbers-in (width p) base m (r .0) (r .1) (r .2)),
+  );
+  neverWraps = λ i l b over.
+      false-if (all isCounter (numbers (width p) base m))
+      (λ f.
+      clash (all-in isCounter (numbers (width p) base m) f (numbers-in (width p) base m i l b))
+      (le-ltb (base + i) counters over));
+  ascending = numbers-ascending (width p) base m;
 }

@@ -1,13 +1,13 @@
 -- A theorem for each statement of specs/Promises, under its name. Assumes nothing.
 use mathlib.Core.Path.{refl}
+use Rattle.rules.specs.Promises.{CounterSetsExact, LivesHold, ReadOnce, RefusalsAlterNothing, RefusalsListed}
+use Rattle.rules.specs.Promises.{PlatformTestAgrees, TablesTestAgrees, FreshWellFormed, WellFormedKept}
+use Rattle.rules.specs.Promises.{MasksExact, CallsReachExactly, EventsAddOne, EventsCounted}
+use Rattle.rules.specs.Promises.{TrafficCountedExactly, CountersOutliveStates, CountersApart, EdgesHold}
 use Rattle.rules.specs.Edges.{computed, edges}
 use Rattle.rules.specs.Tables.{wellFormed}
 use Rattle.rules.specs.Machine.{after}
 use Rattle.rules.specs.Platform.{platformAccepted}
-use Rattle.rules.specs.Promises.{LivesHold, ReadOnce, RefusalsAlterNothing, RefusalsListed, PlatformTestAgrees}
-use Rattle.rules.specs.Promises.{TablesTestAgrees, FreshWellFormed, WellFormedKept, MasksExact}
-use Rattle.rules.specs.Promises.{CallsReachExactly, EventsAddOne, EventsCounted, TrafficCountedExactly}
-use Rattle.rules.specs.Promises.{CountersOutliveStates, CountersApart, EdgesHold}
 use Rattle.rules.proofs.Logic.{and-l, and-r, and-of}
 use Rattle.rules.proofs.WellFormed.{platform-agrees, tables-agree}
 use Rattle.rules.proofs.Readings.{one-reading, one-row}
@@ -63,6 +63,10 @@ masks-exact = Masks.masks-exact
 -- an accepted interrupt or fence reaches those harts, with the actions and the event that document 01 lists
 pub calls-reach-exactly : CallsReachExactly
 calls-reach-exactly = Reach.calls-reach-exactly
+
+-- a set of counters holds exactly base + i for each set bit i, and no base means all
+pub counter-sets-exact : CounterSetsExact
+counter-sets-exact = Masks.counter-sets-exact
 
 -- an event adds one modulo 2^64 to exactly the running counters on its code
 pub events-add-one : EventsAddOne

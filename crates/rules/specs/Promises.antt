@@ -6,12 +6,13 @@ use mathlib.Core.List.{List, [], _∷_, _++_, map, List·Memᴰ}
 use mathlib.Core.Logic.{_↔_}
 use Prim.Native.Nat.{ℕ, _+_, _^_, _%_, _<_, _≤_}
 use lib.IntN.{ℤ}
-use Rattle.rules.specs.Sets.{bit, ones, Ascending}
+use Rattle.rules.specs.Sets.{bit, ones, Ascending, all}
 use Rattle.rules.specs.Names.{HSM, IPI, RFENCE, harts, interruptKind, fenceKind}
 use Rattle.rules.specs.Names.{interruptSent, success, notSupported, invalidParam}
 use Rattle.rules.specs.Names.{invalidAddress, alreadyAvailable, alreadyStarted}
 use Rattle.rules.specs.Names.{alreadyStopped, noSharedMemory, notWellFormed, notEnabled}
 use Rattle.rules.specs.Names.{notStarted, shortMemory, stateForbids, notReportable}
+use Rattle.rules.specs.Names.{counters}
 use Rattle.rules.specs.Platform.{width, enabled, platformAccepted, PlatformAccepted}
 use Rattle.rules.specs.Tables.{Tables, stateOf, ownAt, counterAt, fresh, tablesWellFormed}
 use Rattle.rules.specs.Tables.{TablesWellFormed, wellFormed}
@@ -21,6 +22,7 @@ use Rattle.rules.specs.Masks.{selected, selectionFits, isReached, reache
 use Rattle.rules.specs.Fences.{Fence, functionOf}
 use Rattle.rules.specs.Events.{sentEvent, operandsOf, startIn, sizeIn, idIn, times, others}
 use Rattle.rules.specs.Events.{occurs}
+use Rattle.rules.specs.Counters.{counterSet, isCounter}
 use Rattle.rules.specs.Machine.{Operation, call, event, hartOf, reply, after}
 use Rattle.rules.specs.Lives.{Event, Life, row, events, Reading, placed}
 use Rattle.rules.specs.Rows.{InRow, _does_, eventOf, tablesNow, rowNow, ready}
@@ -162,6 +164,17 @@ pub record CountsExactly (e : ℕ) (c : Counter) : Type 0 where
 
 abbrev pub EventsAddOne : Type 0
 EventsAddOne = (e : ℕ) (c : Counter) → CountsExactly e c
+
+-- "Set: bit i is counter base + i without wrapping; numbers over 7 are -3. Here base 2^64 - 1 has no special meaning."
+pub record CounterSetExact (p : Platform) (base m : ℕ) : Type 0 where
+  pub members : (k : ℕ) → List·Memᴰ k (counterSet p base m)
+      ↔ ((i : ℕ) × (i < width p) × (bit m i ≡ true) × (k ≡ base + i))
+  pub neverWraps : (i : ℕ) → i < width p → bit m i ≡ true → counters ≤ base + i
+      → all isCounter (counterSet p base m) ≡ false
+  pub ascending : Ascending (counterSet p base m)
+
+abbrev pub CounterSetsExact : Type 0
+CounterSetsExact = (p : Platform) (base m : ℕ) → CounterSetExact p base m
 
 -- an accepted reported event is counted in its own hart, and nothing else is altered
 pub record EventCounted (p : Platform) (t : Tables) (h e : ℕ) : Type 0 where
