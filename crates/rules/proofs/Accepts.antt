@@ -47,7 +47,8 @@ Target p hs (hartStart k a o) = (enabled p k ≡ true) × (stateOf hs k ≡ STOP
 Target p hs hartStop = Unit
 Target p hs (hartSuspend y a o) = Unit
 
-life-accepts : (p : Platform) (v : View) (h : ℕ) (q : LifeRequest) → passes p (life q) ≡ true → Target p (v .harts) q → Accepted (lifeReply p v h q)
+life-accepts : (p : Platform) (v : View) (h : ℕ) (q : LifeRequest) → passes p (life q) ≡ true → Target p (v .harts) q
+    → Accepted (lifeReply p v h q)
 unfolding passes lifeReply startReply stopReply suspendReply
 life-accepts p v h (hartStart k a o) ok g =
     pass _ (not-of (g .0)) (pass _ (not-of (eq-eqb _ _ (g .1))) (pass _ (not-of ok) (moves-accepted v _ _ _)))
@@ -56,7 +57,8 @@ life-accepts p v h (hartSuspend y a o) ok g =
     if-both Accepted (eqb y retentiveType) (λ e. moves-accepted v _ _ _)
     (λ e.
     let w = or-right (eqb y retentiveType) _ ok e in
-    pass _ (not-of (and-l (eqb y nonRetentiveType) _ w)) (pass _ (not-of (and-r (eqb y nonRetentiveType) _ w)) (moves-accepted v _ _ _)))
+    pass _ (not-of (and-l (eqb y nonRetentiveType) _ w))
+    (pass _ (not-of (and-r (eqb y nonRetentiveType) _ w)) (moves-accepted v _ _ _)))
 
 -- an outcome that allows the event
 data Allowed : Next → Type 0 where
@@ -81,17 +83,20 @@ unfolding goesOn
 goesOn-accepts v h acts allowed = moves-accepted v _ _ _
 
 -- a running hart is enabled
-pub running-enabled : (p : Platform) (t : Tables) → TablesWellFormed p t → (h : ℕ) → stateOf (t .harts) h ≡ STARTED → enabled p h ≡ true
+pub running-enabled : (p : Platform) (t : Tables) → TablesWellFormed p t → (h : ℕ) → stateOf (t .harts) h ≡ STARTED
+    → enabled p h ≡ true
 unfolding hartAt
 running-enabled p t w h s =
     below-or h harts
     (λ l. by-cases (enabled p h) (λ on. on)
     (λ off. let same = ap (λ (x : Hart). x .state) (w .hart h l .unused off) in absurd (omega arith)))
     (λ g.
-    let same = ap (λ (x : Hart). x .state) (List·getD-eq-default (t .harts) (idle STOPPED) {n = h} (rw (w .records) g)) in
+    let same = ap (λ (x : Hart). x .state) (List·getD-eq-default (t .harts) (idle STOPPED) {n = h} (rw (w .records) g))
+    in
     absurd (omega arith))
 
-module _ (p : Platform) (t : Tables) (fine : TablesWellFormed p t) (h : ℕ) (e : Event) (on : enabled p h ≡ true) (from to : Place)
+module _ (p : Platform) (t : Tables) (fine : TablesWellFormed p t) (h : ℕ) (e : Event) (on : enabled p h ≡ true)
+    (from to : Place)
     (stands : Stands from (hartAt (t .harts) h)) (g : Goes from e to) where
   at-event : {f : Event} → e ≡ f → Goes from f to
   at-event ef = subst (λ (z : Event). Goes from z to) ef g
@@ -107,7 +112,8 @@ module _ (p : Platform) (t : Tables) (fine : TablesWellFormed p t) (h : ℕ) (e 
   target k hartStop i = tt
   target k (hartSuspend z a o) i = tt
 
-  request-accepts : (k : ℕ) (q : Request) → requestEvent k q ≡ h does e ∷ [] → passes p q ≡ true → Accepted (requestReply p (view t k) k q)
+  request-accepts : (k : ℕ) (q : Request) → requestEvent k q ≡ h does e ∷ [] → passes p q ≡ true
+      → Accepted (requestReply p (view t k) k q)
   unfolding requestReply view
   request-accepts k (life q) i ok = life-accepts p (view t k) k q ok (target k q i)
   request-accepts k (other q) i ok = let z : _≡_ {A = ℕ} 0 1 = cc in absurd (omega arith)
@@ -115,12 +121,14 @@ module _ (p : Platform) (t : Tables) (fine : TablesWellFormed p t) (h : ℕ) (e 
   long-enough : (room : ℕ) → leb actionMemory room ≡ true → ltb room actionMemory ≡ false
   long-enough room l = le-ltb room actionMemory (leb-true actionMemory room l)
 
-  pub checked-accepts : (op : Operation) → eventOf op ≡ h does e ∷ [] → ready p t op ≡ true → Accepted (checkedReply p t op)
+  pub checked-accepts : (op : Operation) → eventOf op ≡ h does e ∷ [] → ready p t op ≡ true
+      → Accepted (checkedReply p t op)
   unfolding ready checkedReply enabledReply doneReply wakeReply view
   checked-accepts (call room k r) i ok =
       let w = and-r (leb actionMemory room) _ ok in
       let s : eqb (stateOf (t .harts) k) STARTED ≡ true = and-l (eqb (stateOf (t .harts) k) STARTED) _ w in
-      pass _ (long-enough room (and-l _ _ ok)) (pass _ (not-of (running-enabled p t fine k (eqb-true _ _ s))) (pass _ (not-of s)
+      pass _ (long-enough room (and-l _ _ ok))
+      (pass _ (not-of (running-enabled p t fine k (eqb-true _ _ s))) (pass _ (not-of s)
       (request-accepts k (request r) i (and-r (eqb (stateOf (t .harts) k) STARTED) _ w))))
   checked-accepts (completion room k) i ok =
       let kh : k ≡ h = cc in

@@ -1,4 +1,5 @@
--- Ascending lists of numbers: the sets of `Sets` are ascending, and two ascending lists with the same members are equal.
+-- Ascending lists of numbers: the sets of `Sets` are ascending, and two ascending lists with the same members are
+-- equal.
 -- So a set that a loop makes hart by hart is the set that document 01 names bit by bit.
 use mathlib.Core.Path.{_≡_, refl, sym, ap₂, subst}
 use mathlib.Core.Bool.{Bool, true, _&&_}
@@ -25,7 +26,8 @@ above-le [] u m = absurd (List·Memᴰ·not-nil m)
 above-le (x ∷ l) u m =
     ⊎-elim (λ q. omega (arith, u .0, q)) (λ t. omega (arith, u .0, above-le l (u .1) t)) (List·Memᴰ·cases-cons m)
 
-pub above-snoc : {b : ℕ} (l : List ℕ) (n : ℕ) → Above b l → ((i : ℕ) → List·Memᴰ i l → i < n) → b ≤ n → Above b (l ++ (n ∷ []))
+pub above-snoc : {b : ℕ} (l : List ℕ) (n : ℕ) → Above b l → ((i : ℕ) → List·Memᴰ i l → i < n) → b ≤ n
+    → Above b (l ++ (n ∷ []))
 above-snoc [] n u f h = (h, tt)
 above-snoc (x ∷ l) n u f h =
     (u .0, above-snoc l n (u .1) (λ i m. f i (List·Memᴰ·tail m)) (f x (List·Memᴰ·head refl)))
@@ -46,8 +48,10 @@ ascending-same b (x ∷ l) (y ∷ m) u v f g =
     let xy : x ≡ y = omega arith in
     ap₂ (λ (a : ℕ) (r : List ℕ). a ∷ r) xy
     (ascending-same (suc x) l m (u .1) (subst (λ (k : ℕ). Above (suc k) m) (sym xy) (v .1))
-    (λ i t. ⊎-elim (λ (q : i ≡ y). absurd (omega (arith, above-le l (u .1) t))) (λ r. r) (List·Memᴰ·cases-cons (f i (List·Memᴰ·tail t))))
-    (λ i t. ⊎-elim (λ (q : i ≡ x). absurd (omega (arith, above-le m (v .1) t))) (λ r. r) (List·Memᴰ·cases-cons (g i (List·Memᴰ·tail t)))))
+    (λ i t. ⊎-elim (λ (q : i ≡ y). absurd (omega (arith, above-le l (u .1) t))) (λ r. r)
+    (List·Memᴰ·cases-cons (f i (List·Memᴰ·tail t))))
+    (λ i t. ⊎-elim (λ (q : i ≡ x). absurd (omega (arith, above-le m (v .1) t))) (λ r. r)
+    (List·Memᴰ·cases-cons (g i (List·Memᴰ·tail t)))))
 
 -- ----- the sets are ascending
 
@@ -61,12 +65,16 @@ those-ascending (suc n) f =
 
 shift-ascending : (base b : ℕ) (l : List ℕ) → Above b l → Above (base + b) (map (λ (i : ℕ). base + i) l)
 shift-ascending base b [] u = tt
-shift-ascending base b (x ∷ l) u =
-    (omega (arith, u .0), subst (λ (k : ℕ). Above k (map (λ (i : ℕ). base + i) l)) (omega arith) (shift-ascending base (suc x) l (u .1)))
+shift-ascending base b (x ∷ l) u = (
+  omega (arith, u .0),
+  subst (λ (k : ℕ). Above k (map (λ (i : ℕ). base + i) l)) (omega arith)
+      (shift-ascending base (suc x) l (u .1)),
+)
 
 pub numbers-ascending : (w base m : ℕ) → Ascending (numbers w base m)
 unfolding numbers
-numbers-ascending w base m = above-weaken (numbers w base m) zero-le (shift-ascending base 0 (those w (bit m)) (those-ascending w (bit m)))
+numbers-ascending w base m = above-weaken (numbers w base m) zero-le
+    (shift-ascending base 0 (those w (bit m)) (those-ascending w (bit m)))
 
 pub keep-ascending : (f : ℕ → Bool) (b : ℕ) (l : List ℕ) → Above b l → Above b (keep f l)
 unfolding keep
@@ -94,14 +102,16 @@ keep-only {A} f {i} (x ∷ l) m =
     let later : List·Memᴰ i (keep f l) → List·Memᴰ i (x ∷ l) × (f i ≡ true) =
     λ t. let r = keep-only f l t in (List·Memᴰ·tail (r .0), r .1) in
     by-cases (f x)
-    (λ e. ⊎-elim (λ q. (List·Memᴰ·head q, subst (λ (k : A). f k ≡ true) (sym q) e)) later (List·Memᴰ·cases-cons (rw (if-true _ _ e) at m)))
+    (λ e. ⊎-elim (λ q. (List·Memᴰ·head q, subst (λ (k : A). f k ≡ true) (sym q) e)) later
+    (List·Memᴰ·cases-cons (rw (if-true _ _ e) at m)))
     (λ e. later (rw (if-false _ _ e) at m))
 
 pub all-in : {A : Type 0} (f : A → Bool) {i : A} (l : List A) → all f l ≡ true → List·Memᴰ i l → f i ≡ true
 unfolding all
 all-in f [] a m = absurd (List·Memᴰ·not-nil m)
 all-in {A} f (x ∷ l) a m =
-    ⊎-elim (λ q. subst (λ (k : A). f k ≡ true) (sym q) (and-l (f x) _ a)) (λ t. all-in f l (and-r (f x) _ a) t) (List·Memᴰ·cases-cons m)
+    ⊎-elim (λ q. subst (λ (k : A). f k ≡ true) (sym q) (and-l (f x) _ a)) (λ t. all-in f l (and-r (f x) _ a) t)
+    (List·Memᴰ·cases-cons m)
 
 pub all-of : {A : Type 0} (f : A → Bool) (l : List A) → ((i : A) → List·Memᴰ i l → f i ≡ true) → all f l ≡ true
 unfolding all
@@ -113,7 +123,8 @@ pub numbers-in : (w base m i : ℕ) → i < w → bit m i ≡ true → List·Mem
 unfolding numbers
 numbers-in w base m i l e = Memᴰ·map (λ (k : ℕ). base + k) (those-in (bit m) w i l e)
 
-pub numbers-only : (w base m h : ℕ) → List·Memᴰ h (numbers w base m) → (i : ℕ) × (i < w) × (bit m i ≡ true) × (h ≡ base + i)
+pub numbers-only : (w base m h : ℕ) → List·Memᴰ h (numbers w base m)
+    → (i : ℕ) × (i < w) × (bit m i ≡ true) × (h ≡ base + i)
 unfolding numbers
 numbers-only w base m h t =
     let r = Memᴰ·of-map (λ (k : ℕ). base + k) (those w (bit m)) t in
@@ -138,18 +149,22 @@ names-inv w base m h e =
     (numbers-in w base m (h - base) (ltb-true (h - base) w (and-l _ _ r)) (and-r (ltb (h - base) w) _ r))
 
 -- where each number of a mask is below n, the mask's numbers are those below n that it names
-pub numbers-those : (w base m n : ℕ) → ((h : ℕ) → List·Memᴰ h (numbers w base m) → h < n) → numbers w base m ≡ those n (names w base m)
+pub numbers-those : (w base m n : ℕ) → ((h : ℕ) → List·Memᴰ h (numbers w base m) → h < n)
+    → numbers w base m ≡ those n (names w base m)
 numbers-those w base m n small =
-    ascending-same 0 (numbers w base m) (those n (names w base m)) (numbers-ascending w base m) (those-ascending n (names w base m))
+    ascending-same 0 (numbers w base m) (those n (names w base m)) (numbers-ascending w base m)
+    (those-ascending n (names w base m))
     (λ h t.
     let r = numbers-only w base m h t in
-    those-in (names w base m) n h (small h t) (subst (λ (k : ℕ). names w base m k ≡ true) (sym (r .3)) (names-of w base m (r .0) (r .1) (r .2))))
+    those-in (names w base m) n h (small h t)
+    (subst (λ (k : ℕ). names w base m k ≡ true) (sym (r .3)) (names-of w base m (r .0) (r .1) (r .2))))
     (λ h t. names-inv w base m h (those-only (names w base m) n h t .1))
 
 -- to keep some of those is to ask both tests at once
 pub keep-those : (f g : ℕ → Bool) (n : ℕ) → keep f (those n g) ≡ those n (λ h. g h && f h)
 keep-those f g n =
-    ascending-same 0 (keep f (those n g)) (those n (λ h. g h && f h)) (keep-ascending f 0 (those n g) (those-ascending n g)) (those-ascending n _)
+    ascending-same 0 (keep f (those n g)) (those n (λ h. g h && f h))
+    (keep-ascending f 0 (those n g) (those-ascending n g)) (those-ascending n _)
     (λ h t.
     let r = keep-only f (those n g) t in
     let s = those-only g n h (r .0) in

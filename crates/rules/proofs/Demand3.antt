@@ -27,7 +27,8 @@ use Rattle.rules.proofs.Tracks.{Tracks, track, track-all, track-fresh}
 use Rattle.rules.proofs.Accepts.{is-accepted, checked-accepts, running-enabled}
 
 -- on well-formed tables there is no H1
-pub reply-checked : (p : Platform) (t : Tables) (op : Operation) → platformAccepted p ≡ true → TablesWellFormed p t → reply p t op ≡ checkedReply p t op
+pub reply-checked : (p : Platform) (t : Tables) (op : Operation) → platformAccepted p ≡ true → TablesWellFormed p t
+    → reply p t op ≡ checkedReply p t op
 unfolding reply wellFormed
 reply-checked p t op ok w = if-false _ _ (not-of (and-of ok (tables-agree p t .1 w)))
 
@@ -44,10 +45,12 @@ module _ (p : Platform) (ok : platformAccepted p ≡ true) (ops : List Operation
   statuses : (h : ℕ) (r : Reading (rowNow p ops h)) → stateOf (tablesNow p ops .harts) h ≡ placed r
   statuses h r =
       let T = tracked h in
-      T .stands .state ∙ sym (run-last (T .run)) ∙ ap (last STOPPED) (run-one (T .run) (read-run r .1) (T .said ∙ sym (r .said)) .0)
+      T .stands .state ∙ sym (run-last (T .run))
+      ∙ ap (last STOPPED) (run-one (T .run) (read-run r .1) (T .said ∙ sym (r .said)) .0)
 
   -- what is accepted fits
-  sound : (h : ℕ) (e : Event) (op : Operation) → eventOf op ≡ h does e ∷ [] → accepted (reply p (tablesNow p ops) op) ≡ true → Reading (rowNow p ops h ++ (e ∷ []))
+  sound : (h : ℕ) (e : Event) (op : Operation) → eventOf op ≡ h does e ∷ []
+      → accepted (reply p (tablesNow p ops) op) ≡ true → Reading (rowNow p ops h ++ (e ∷ []))
   unfolding adds if_then_else_
   sound h e op ev yes′ =
       let T = track p h (tablesNow p ops) fine (rowNow p ops h) (tracked h) op in
@@ -55,11 +58,13 @@ module _ (p : Platform) (ok : platformAccepted p ≡ true) (ops : List Operation
       subst (λ (l : List Event). Reading (rowNow p ops h ++ l)) added (subst Reading (T .said) (run-read (T .run)))
 
   -- what fits and is ready is accepted
-  complete : (h : ℕ) (e : Event) (op : Operation) → enabled p h ≡ true → eventOf op ≡ h does e ∷ [] → ready p (tablesNow p ops) op ≡ true
+  complete : (h : ℕ) (e : Event) (op : Operation) → enabled p h ≡ true → eventOf op ≡ h does e ∷ []
+      → ready p (tablesNow p ops) op ≡ true
       → Reading (rowNow p ops h ++ (e ∷ [])) → accepted (reply p (tablesNow p ops) op) ≡ true
   complete h e op on ev r fit =
       let T = tracked h in
-      let g = run-next (T .run) (read-run fit .1) (fit .said ∙ ap (λ (l : List Event). l ++ (e ∷ [])) (sym (T .said))) in
+      let g = run-next (T .run) (read-run fit .1) (fit .said ∙ ap (λ (l : List Event). l ++ (e ∷ [])) (sym (T .said)))
+      in
       ap accepted (reply-checked p (tablesNow p ops) op ok fine)
       ∙ is-accepted (checked-accepts p (tablesNow p ops) fine h e on (T .place) (g .0) (T .stands) (g .1) op ev r)
 
@@ -68,8 +73,10 @@ status-request : (q : Registers) → q .a7 ≡ HSM → q .a6 ≡ 2 → request q
 unfolding request hartRequest if_then_else_
 status-request q a7 a6 = rw (a7, a6) refl
 
-status-checked : (p : Platform) (t : Tables) (room k : ℕ) (q : Registers) → TablesWellFormed p t → request q ≡ other (hartStatus (q .a0))
-    → ready p t (call room k q) ≡ true → checkedReply p t (call room k q) ≡ plain (view t k) (statusReply p (view t k) (q .a0))
+status-checked : (p : Platform) (t : Tables) (room k : ℕ) (q : Registers) → TablesWellFormed p t
+    → request q ≡ other (hartStatus (q .a0))
+    → ready p t (call room k q) ≡ true
+    → checkedReply p t (call room k q) ≡ plain (view t k) (statusReply p (view t k) (q .a0))
 unfolding ready checkedReply enabledReply requestReply plainReply view
 status-checked p t room k q w asked r =
     let m = and-r (leb actionMemory room) _ r in
@@ -84,7 +91,8 @@ status-shown : (p : Platform) (t : Tables) (h k : ℕ) → enabled p h ≡ true
 unfolding statusReply plain answerOf view
 status-shown p t h k on = rw (if-false _ _ (not-of on)) refl
 
-status-call : (p : Platform) (t : Tables) (h room k : ℕ) (q : Registers) → platformAccepted p ≡ true → TablesWellFormed p t → enabled p h ≡ true
+status-call : (p : Platform) (t : Tables) (h room k : ℕ) (q : Registers) → platformAccepted p ≡ true
+    → TablesWellFormed p t → enabled p h ≡ true
     → q .a7 ≡ HSM → q .a6 ≡ 2 → q .a0 ≡ h → ready p t (call room k q) ≡ true
     → answerOf (reply p t (call room k q)) ≡ Pair success (stateOf (t .harts) h) false 0
 status-call p t h room k q ok w on a7 a6 a0 r =
@@ -99,7 +107,9 @@ lives-hold p ok ops h on = record {
   reads = let T = tracked p ok ops h in subst Reading (T .said) (run-read (T .run));
   status = statuses p ok ops h;
   reported = λ r room k q a7 a6 a0 w.
-      status-call p (tablesNow p ops) h room k q ok (fine p ok ops) on a7 a6 a0 w ∙ ap (λ (s : ℕ). Pair success s false 0) (statuses p ok ops h r);
+      status-call p (tablesNow p ops) h room k q ok (fine p ok ops) on a7 a6 a0 w
+      ∙ ap (λ (s : ℕ). Pair success s false 0) (statuses p ok ops h r);
   accepts = λ e op ev w fit. complete p ok ops h e op on ev w fit;
-  refuses = λ e op ev no-fit. false-if (accepted (reply p (tablesNow p ops) op)) (λ y. no-fit (sound p ok ops h e op ev y));
+  refuses = λ e op ev no-fit. false-if (accepted (reply p (tablesNow p ops) op))
+      (λ y. no-fit (sound p ok ops h e op ev y));
 }

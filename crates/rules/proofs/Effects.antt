@@ -41,7 +41,8 @@ Leads e x y = (from : Place) → Stands from x → (to : Place) × Goes from e t
 
 pub data Effect (p : Platform) (hs : List Hart) : List InRow → List Hart → Type 0 where
   still : Effect p hs [] hs
-  moved : {k : ℕ} {e : Event} (x : Hart) → enabled p k ≡ true → Leads e (hartAt hs k) x → Effect p hs (k does e ∷ []) (set hs k x)
+  moved : {k : ℕ} {e : Event} (x : Hart) → enabled p k ≡ true → Leads e (hartAt hs k) x
+      → Effect p hs (k does e ∷ []) (set hs k x)
 
 -- a reply whose effect on the records hs is that of the events es
 pub data Lawful (p : Platform) (hs : List Hart) (es : List InRow) : Reply → Type 0 where
@@ -50,7 +51,8 @@ pub data Lawful (p : Platform) (hs : List Hart) (es : List InRow) : Reply → Ty
   l-did : {d : Done} → Effect p hs es (d .harts) → Lawful p hs es (did d)
 
 -- an event leads from the one place that a state names
-leads : {from to : Place} {e : Event} {x y : Hart} → Goes from e to → x .state ≡ name from → y .state ≡ name to → Leads e x y
+leads : {from to : Place} {e : Event} {x y : Hart} → Goes from e to → x .state ≡ name from → y .state ≡ name to
+    → Leads e x y
 leads {from} {to} {e} g s u at q =
     (to, subst (λ (w : Place). Goes w e to) (one-name from at (sym s ∙ q .state)) g, record { state = u })
 
@@ -84,7 +86,8 @@ life-lawful p v h on s (hartStart k a o) =
 life-lawful p v h on s hartStop = moves-lawful v true [] (moved _ on (leads g-stop s refl))
 life-lawful p v h on s (hartSuspend y a o) =
     walk (λ e. moves-lawful v true [] (moved _ on (suspend-leads true a o s)))
-    (λ e. walk (λ f. l-failed) (λ f. walk (λ g. l-failed) (λ g. moves-lawful v true [] (moved _ on (suspend-leads false a o s)))))
+    (λ e. walk (λ f. l-failed)
+    (λ f. walk (λ g. l-failed) (λ g. moves-lawful v true [] (moved _ on (suspend-leads false a o s)))))
 
 request-lawful : (p : Platform) (v : View) (h : ℕ) → enabled p h ≡ true → stateOf (v .harts) h ≡ STARTED
     → (q : Request) → Lawful p (v .harts) (requestEvent h q) (requestReply p v h q)
@@ -119,24 +122,30 @@ wake-leads x y e rising q = absurd (never (rw (q .state) at e))
 wake-leads x y e stopping q = absurd (never (rw (q .state) at e))
 
 goesOn-lawful : {p : Platform} (v : View) (acts : List Action) {h : ℕ} {e : Event} → enabled p h ≡ true → (n : Next)
-    → ((x : Hart) → n ≡ To x → Leads e (hartAt (v .harts) h) x) → Lawful p (v .harts) (h does e ∷ []) (goesOn v h acts n)
+    → ((x : Hart) → n ≡ To x → Leads e (hartAt (v .harts) h) x)
+    → Lawful p (v .harts) (h does e ∷ []) (goesOn v h acts n)
 unfolding goesOn
 goesOn-lawful v acts on (To x) f = moves-lawful v false acts (moved _ on (f x refl))
 goesOn-lawful v acts on Forbidden f = l-refused
 
 -- ----- every operation
 
-enabled-lawful : (p : Platform) (v : View) (op : Operation) → enabled p (hartOf op) ≡ true → Lawful p (v .harts) (eventOf op) (enabledReply p v op)
+enabled-lawful : (p : Platform) (v : View) (op : Operation) → enabled p (hartOf op) ≡ true
+    → Lawful p (v .harts) (eventOf op) (enabledReply p v op)
 unfolding enabledReply doneReply wakeReply eventReply
-enabled-lawful p v (call room h r) on = walk (λ e. l-refused) (λ e. request-lawful p v h on (eqb-true _ _ (not-false _ e)) (request r))
-enabled-lawful p v (completion room h) on = goesOn-lawful v [] on (doneOf (hartAt (v .harts) h)) (done-leads (hartAt (v .harts) h))
+enabled-lawful p v (call room h r) on =
+    walk (λ e. l-refused) (λ e. request-lawful p v h on (eqb-true _ _ (not-false _ e)) (request r))
+enabled-lawful p v (completion room h) on =
+    goesOn-lawful v [] on (doneOf (hartAt (v .harts) h)) (done-leads (hartAt (v .harts) h))
 enabled-lawful p v (waking room h) on =
-    goesOn-lawful v (wakeActions h (hartAt (v .harts) h)) on (wakeOf (hartAt (v .harts) h)) (wake-leads (hartAt (v .harts) h))
+    goesOn-lawful v (wakeActions h (hartAt (v .harts) h)) on (wakeOf (hartAt (v .harts) h))
+    (wake-leads (hartAt (v .harts) h))
 enabled-lawful p v (event h e) on = walk (λ f. l-refused) (λ f. plain-lawful v _)
 
 checked-lawful : (p : Platform) (t : Tables) (op : Operation) → Lawful p (t .harts) (eventOf op) (checkedReply p t op)
 unfolding checkedReply view
-checked-lawful p t op = walk (λ e. l-refused) (λ e. walk (λ f. l-refused) (λ f. enabled-lawful p (view t (hartOf op)) op (not-false _ f)))
+checked-lawful p t op = walk (λ e. l-refused)
+    (λ e. walk (λ f. l-refused) (λ f. enabled-lawful p (view t (hartOf op)) op (not-false _ f)))
 
 pub reply-lawful : (p : Platform) (t : Tables) (op : Operation) → Lawful p (t .harts) (eventOf op) (reply p t op)
 unfolding reply

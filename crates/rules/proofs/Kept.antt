@@ -29,7 +29,8 @@ module _ (p : Platform) where
   abbrev Rows : List (List Counter) → Type 0
   Rows t = (length t ≡ harts) × ((h : ℕ) → h < harts → OwnFine p h (getD t h []))
 
-  set-rows : (t : List (List Counter)) (h : ℕ) (cs : List Counter) → (h < harts → OwnFine p h cs) → Rows t → Rows (set t h cs)
+  set-rows : (t : List (List Counter)) (h : ℕ) (cs : List Counter) → (h < harts → OwnFine p h cs) → Rows t
+      → Rows (set t h cs)
   set-rows t h cs ok r = (
     length-set t h cs ∙ r .0,
     λ j l. set-either (OwnFine p j) [] t h j cs
@@ -39,7 +40,12 @@ module _ (p : Platform) where
   counted-own : (h e : ℕ) (cs : List Counter) → OwnFine p h cs → OwnFine p h (map (counted e) cs)
   counted-own h e cs f =
       let g = event-fine e cs (f .eight, f .fine) in
-      record { eight = g .0; fine = g .1; unused = λ off i. counted-at e cs i ∙ ap (counted e) (f .unused off i) ∙ counted-blank e }
+      record {
+        eight = g .0;
+        fine = g .1;
+        unused = λ off i. counted-at e cs i ∙ ap (counted e) (f .unused off i)
+            ∙ counted-blank e;
+      }
 
   count-rows : (h e : ℕ) (t : List (List Counter)) → Rows t → Rows (countAt h e t)
   unfolding countAt
@@ -48,17 +54,23 @@ module _ (p : Platform) where
   tell-rows : (h e : ℕ) (ks : List ℕ) (t : List (List Counter)) → Rows t → Rows (tell h e ks t)
   unfolding tell tellOne
   tell-rows h e [] t r = r
-  tell-rows h e (k ∷ ks) t r = tell-rows h e ks (tellOne h e k t) (if-both Rows (eqb k h) (λ _. r) (λ _. count-rows k (e + 1) (countAt h e t) (count-rows h e t r)))
+  tell-rows h e (k ∷ ks) t r = tell-rows h e ks (tellOne h e k t)
+      (if-both Rows (eqb k h) (λ _. r) (λ _. count-rows k (e + 1) (countAt h e t) (count-rows h e t r)))
 
   effect-fine : (hs : List Hart) → length hs ≡ harts → ((h : ℕ) → h < harts → HartFine p h (hartAt hs h))
-      → {es : List InRow} {after : List Hart} → Effect p hs es after → (length after ≡ harts) × ((h : ℕ) → h < harts → HartFine p h (hartAt after h))
+      → {es : List InRow} {after : List Hart} → Effect p hs es after
+      → (length after ≡ harts) × ((h : ℕ) → h < harts → HartFine p h (hartAt after h))
   unfolding hartAt
   effect-fine hs long f still = (long, f)
   effect-fine hs long f (moved {k} x on lead) =
       let from = named-place (hartAt hs k .state) (f k (enabled-under p k on) .state) in
       let to = lead (from .0) (record { state = from .1 }) in
-      let ok : HartFine p k x = record { state = rw (to .2 .state) (name-le (to .0)); unused = λ off. absurd (clash on off) } in
-      (length-set hs k x ∙ long, λ j l. set-either (HartFine p j) (idle STOPPED) hs k j x (λ e. subst (λ (i : ℕ). HartFine p i x) (sym e) ok) (f j l))
+      let ok : HartFine p k x = record
+      { state = rw (to .2 .state) (name-le (to .0)); unused = λ off. absurd (clash on off) } in (
+        length-set hs k x ∙ long,
+        λ j l. set-either (HartFine p j) (idle STOPPED) hs k j x
+            (λ e. subst (λ (i : ℕ). HartFine p i x) (sym e) ok) (f j l),
+      )
 
   commit-kept : (t : Tables) (h : ℕ) → enabled p h ≡ true → TablesWellFormed p t → {es : List InRow} (r : Reply)
       → Lawful p (t .harts) es r → ReplyFine r → TablesWellFormed p (commit t h r)
@@ -68,7 +80,8 @@ module _ (p : Platform) where
   commit-kept t h on w (did d) (l-did e) (r-did f) =
       let hs = effect-fine (t .harts) (w .records) (w .hart) e in
       let own : OwnFine p h (d .own) = record { eight = f .0; fine = f .1; unused = λ off. absurd (clash on off) } in
-      let cs = tell-rows h (d .code) (d .told) (set (t .counters) h (d .own)) (set-rows (t .counters) h (d .own) (λ _. own) (w .rows, w .own)) in
+      let cs = tell-rows h (d .code) (d .told) (set (t .counters) h (d .own))
+      (set-rows (t .counters) h (d .own) (λ _. own) (w .rows, w .own)) in
       record { records = hs .0; rows = cs .0; hart = hs .1; own = cs .1 }
 
   pub after-kept : (t : Tables) (op : Operation) → TablesWellFormed p t → TablesWellFormed p (after p t op)
@@ -81,7 +94,8 @@ module _ (p : Platform) where
       (λ on e.
       let o = not-false _ on in
       let f = w .own (hartOf op) (enabled-under p (hartOf op) o) in
-      commit-kept t (hartOf op) o w (enabledReply p (view t (hartOf op)) op) e (enabled-fine p (view t (hartOf op)) op (f .eight, f .fine)))))
+      commit-kept t (hartOf op) o w (enabledReply p (view t (hartOf op)) op) e
+      (enabled-fine p (view t (hartOf op)) op (f .eight, f .fine)))))
       (reply-lawful p t op)
 
   pub all-kept : (t : Tables) (ops : List Operation) → TablesWellFormed p t → TablesWellFormed p (afterAll p t ops)
@@ -93,11 +107,13 @@ module _ (p : Platform) where
   pub fresh-fine : enabled p (p .boot) ≡ true → TablesWellFormed p (fresh p)
   unfolding fresh hartAt ownAt counterAt
   fresh-fine on = record {
-    records = length-set (replicate harts (idle STOPPED)) (p .boot) (idle STARTED) ∙ length-replicate harts (idle STOPPED);
+    records = length-set (replicate harts (idle STOPPED)) (p .boot) (idle STARTED)
+        ∙ length-replicate harts (idle STOPPED);
     rows = length-replicate harts (replicate counters blank);
     hart = λ h l.
         set-either (HartFine p h) (idle STOPPED) (replicate harts (idle STOPPED)) (p .boot) h (idle STARTED)
-        (λ e. record { state = zero-le; unused = λ off. absurd (clash on (subst (λ (k : ℕ). enabled p k ≡ false) e off)) })
+        (λ e. record
+        { state = zero-le; unused = λ off. absurd (clash on (subst (λ (k : ℕ). enabled p k ≡ false) e off)) })
         (rw (getD-repeat harts h (idle STOPPED)) (record { state = omega arith; unused = λ _. refl }));
     own = λ h l.
         rw (getD-replicate harts h (replicate counters blank) [] l)

@@ -7,7 +7,8 @@ use Rattle.rules.proofs.Logic.{below-or}
 
 module _ {A : Type 0} where
   -- after a store at i, what stands at j is what was stored, if j is i, or what stood there before
-  pub set-either : (Q : A → Type 0) (d : A) (l : List A) (i j : ℕ) (a : A) → (j ≡ i → Q a) → Q (getD l j d) → Q (getD (set l i a) j d)
+  pub set-either : (Q : A → Type 0) (d : A) (l : List A) (i j : ℕ) (a : A) → (j ≡ i → Q a) → Q (getD l j d)
+      → Q (getD (set l i a) j d)
   set-either Q d [] i j a f q = q
   set-either Q d (y ∷ l) zero zero a f q = f refl
   set-either Q d (y ∷ l) zero (suc j) a f q = q
@@ -16,4 +17,5 @@ module _ {A : Type 0} where
 
   -- a repeated element stands at every place, its default past the end included
   pub getD-repeat : (n j : ℕ) (a : A) → getD (replicate n a) j a ≡ a
-  getD-repeat n j a = below-or j n (getD-replicate n j a a) (λ g. List·getD-eq-default (replicate n a) a (rw (length-replicate n a) g))
+  getD-repeat n j a = below-or j n (getD-replicate n j a a)
+      (λ g. List·getD-eq-default (replicate n a) a (rw (length-replicate n a) g))

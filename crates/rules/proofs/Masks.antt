@@ -37,10 +37,12 @@ module _ (p : Platform) (m base : ℕ) where
   unfolding selectionFits
   fits-in h f t = all-in (enabled p) (selected p m base) f t
 
-  pub selected-those : (base ≡ ones (width p) → ⊥) → selectionFits p m base ≡ true → selected p m base ≡ those harts (names (width p) base m)
+  pub selected-those : (base ≡ ones (width p) → ⊥) → selectionFits p m base ≡ true
+      → selected p m base ≡ those harts (names (width p) base m)
   selected-those n f =
       selected-named n
-      ∙ numbers-those (width p) base m harts (λ h t. enabled-under p h (fits-in h f (subst (List·Memᴰ h) (sym (selected-named n)) t)))
+      ∙ numbers-those (width p) base m harts
+      (λ h t. enabled-under p h (fits-in h f (subst (List·Memᴰ h) (sym (selected-named n)) t)))
 
   -- ----- the promise
 
@@ -50,29 +52,39 @@ module _ (p : Platform) (m base : ℕ) where
     λ on. subst (List·Memᴰ h) (sym (selected-everyone e)) (those-in (enabled p) harts h (enabled-under p h on) on),
   )
 
-  named : (base ≡ ones (width p) → ⊥) → (h : ℕ) → List·Memᴰ h (selected p m base) ↔ ((i : ℕ) × (i < width p) × (bit m i ≡ true) × (h ≡ base + i))
+  named : (base ≡ ones (width p) → ⊥) → (h : ℕ) → List·Memᴰ h (selected p m base)
+      ↔ ((i : ℕ) × (i < width p) × (bit m i ≡ true) × (h ≡ base + i))
   named n h = (
     λ t. numbers-only (width p) base m h (subst (List·Memᴰ h) (selected-named n) t),
     λ r. subst (List·Memᴰ h) (sym (selected-named n))
-        (subst (λ (k : ℕ). List·Memᴰ k (numbers (width p) base m)) (sym (r .3)) (numbers-in (width p) base m (r .0) (r .1) (r .2))),
+        (subst (λ (k : ℕ). List·Memᴰ k (numbers (width p) base m)) (sym (r .3))
+        (numbers-in (width p) base m (r .0) (r .1) (r .2))),
   )
 
   fits : selectionFits p m base ≡ true ↔ ((h : ℕ) → List·Memᴰ h (selected p m base) → enabled p h ≡ true)
   unfolding selectionFits
   fits = (λ f h t. fits-in h f t, λ f. all-of (enabled p) (selected p m base) f)
 
-  neverWraps : (base ≡ ones (width p) → ⊥) → (i : ℕ) → i < width p → bit m i ≡ true → harts ≤ base + i → selectionFits p m base ≡ false
+  neverWraps : (base ≡ ones (width p) → ⊥) → (i : ℕ) → i < width p → bit m i ≡ true → harts ≤ base + i
+      → selectionFits p m base ≡ false
   neverWraps n i l b over =
       false-if (selectionFits p m base)
-      (λ f. clash (fits-in (base + i) f (subst (List·Memᴰ (base + i)) (sym (selected-named n)) (numbers-in (width p) base m i l b))) (enabled-over p (base + i) over))
+      (λ f. clash
+      (fits-in (base + i) f (subst (List·Memᴰ (base + i)) (sym (selected-named n)) (numbers-in (width p) base m i l b)))
+      (enabled-over p (base + i) over))
 
   ascending : Ascending (selected p m base)
   unfolding selected
   ascending = if-both Ascending _ (λ _. those-ascending harts (enabled p)) (λ _. numbers-ascending (width p) base m)
 
-  reaches : (hs : List Hart) (h : ℕ) → List·Memᴰ h (reached p hs m base) ↔ (List·Memᴰ h (selected p m base) × (isReached hs h ≡ true))
+  reaches : (hs : List Hart) (h : ℕ) → List·Memᴰ h (reached p hs m base)
+      ↔ (List·Memᴰ h (selected p m base) × (isReached hs h ≡ true))
   unfolding reached
-  reaches hs h = (λ t. keep-only (isReached hs) (selected p m base) t, λ r. keep-in (isReached hs) (selected p m base) (r .0) (r .1))
+  reaches hs h = (
+    λ t. keep-only (isReached hs) (selected p m base) t,
+    λ r. keep-in (isReached hs) (selected p m base) (r .0)
+        (r .1),
+  )
 
   reachedAscending : (hs : List Hart) → Ascending (reached p hs m base)
   unfolding reached
@@ -96,7 +108,8 @@ unfolding counterSet isCounter
 counter-sets-exact p base m = record {
   members = λ k. (
     λ t. numbers-only (width p) base m k t,
-    λ r. subst (λ (j : ℕ). List·Memᴰ j (numbers (width p) base m)) (sym (r .3)) (numbers-in (width p) base m (r .0) (r .1) (r .2)),
+    λ r. subst (λ (j : ℕ). List·Memᴰ j (numbers (width p) base m)) (sym (r .3))
+        (numbers-in (width p) base m (r .0) (r .1) (r .2)),
   );
   neverWraps = λ i l b over.
       false-if (all isCounter (numbers (width p) base m))

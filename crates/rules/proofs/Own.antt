@@ -48,10 +48,12 @@ set-fine : (cs : List Counter) (i : ℕ) (c : Counter) → CounterFine c → Fin
 unfolding counterAt
 set-fine cs i c ok f = (length-set cs i c ∙ f .0, λ j. set-either CounterFine blank cs i j c (λ _. ok) (f .1 j))
 
-each-fine : (g : Counter → Counter) → ((c : Counter) → CounterFine c → CounterFine (g c)) → (is : List ℕ) (cs : List Counter) → Fine cs → Fine (each g is cs)
+each-fine : (g : Counter → Counter) → ((c : Counter) → CounterFine c → CounterFine (g c))
+    → (is : List ℕ) (cs : List Counter) → Fine cs → Fine (each g is cs)
 unfolding each
 each-fine g ok [] cs f = f
-each-fine g ok (i ∷ is) cs f = each-fine g ok is (set cs i (g (counterAt cs i))) (set-fine cs i (g (counterAt cs i)) (ok (counterAt cs i) (f .1 i)) f)
+each-fine g ok (i ∷ is) cs f = each-fine g ok is (set cs i (g (counterAt cs i)))
+    (set-fine cs i (g (counterAt cs i)) (ok (counterAt cs i) (f .1 i)) f)
 
 -- ----- the caller's counters after each counter call
 
@@ -74,26 +76,31 @@ ended-fine flags c f = record {
 }
 
 -- a start keeps what is mapped
-begun-mapped : (flags x : ℕ) (cs : List Counter) (i j : ℕ) → isMapped cs j ≡ true → isMapped (set cs i (begun flags x (counterAt cs i))) j ≡ true
+begun-mapped : (flags x : ℕ) (cs : List Counter) (i j : ℕ) → isMapped cs j ≡ true
+    → isMapped (set cs i (begun flags x (counterAt cs i))) j ≡ true
 unfolding isMapped counterAt begun
 begun-mapped flags x cs i j m =
     set-either (λ (c : Counter). c .mapped ≡ true) blank cs i j (begun flags x (counterAt cs i))
     (λ e. subst (λ (k : ℕ). (counterAt cs k) .mapped ≡ true) e m) m
 
-all-mapped : (flags x : ℕ) (cs : List Counter) (i : ℕ) (is : List ℕ) → all (isMapped cs) is ≡ true → all (isMapped (set cs i (begun flags x (counterAt cs i)))) is ≡ true
+all-mapped : (flags x : ℕ) (cs : List Counter) (i : ℕ) (is : List ℕ) → all (isMapped cs) is ≡ true
+    → all (isMapped (set cs i (begun flags x (counterAt cs i)))) is ≡ true
 unfolding all
 all-mapped flags x cs i [] a = refl
 all-mapped flags x cs i (j ∷ is) a =
-    and-of (begun-mapped flags x cs i j (and-l (isMapped cs j) _ a)) (all-mapped flags x cs i is (and-r (isMapped cs j) _ a))
+    and-of (begun-mapped flags x cs i j (and-l (isMapped cs j) _ a))
+    (all-mapped flags x cs i is (and-r (isMapped cs j) _ a))
 
-begun-fine : (flags x : ℕ) (is : List ℕ) (cs : List Counter) → all (isMapped cs) is ≡ true → Fine cs → Fine (each (begun flags x) is cs)
+begun-fine : (flags x : ℕ) (is : List ℕ) (cs : List Counter) → all (isMapped cs) is ≡ true → Fine cs
+    → Fine (each (begun flags x) is cs)
 unfolding each all begun isMapped
 begun-fine flags x [] cs a f = f
 begun-fine flags x (i ∷ is) cs a f =
     let m : (counterAt cs i) .mapped ≡ true = and-l (isMapped cs i) _ a in
     begun-fine flags x is (set cs i (begun flags x (counterAt cs i)))
     (all-mapped flags x cs i is (and-r (isMapped cs i) _ a))
-    (set-fine cs i (begun flags x (counterAt cs i)) (record { codes = f .1 i .codes; runs = λ _. m; canonical = f .1 i .canonical }) f)
+    (set-fine cs i (begun flags x (counterAt cs i))
+    (record { codes = f .1 i .codes; runs = λ _. m; canonical = f .1 i .canonical }) f)
 
 data PlainFine : Plain → Type 0 where
   f-fails : {e : ℤ} → ListedError e → PlainFine (fails e)
@@ -103,10 +110,12 @@ data PlainFine : Plain → Type 0 where
 walk : {b : Bool} {x y : Plain} → (b ≡ true → PlainFine x) → (b ≡ false → PlainFine y) → PlainFine (if b then x else y)
 walk {b} f g = if-both PlainFine b f g
 
-chosen-fine : (flags e : ℕ) (cs : List Counter) → e ≤ lastCode → Fine cs → (o : Option ℕ) → PlainFine (configureChosen flags e cs o)
+chosen-fine : (flags e : ℕ) (cs : List Counter) → e ≤ lastCode → Fine cs → (o : Option ℕ)
+    → PlainFine (configureChosen flags e cs o)
 unfolding configureChosen
 chosen-fine flags e cs l f none = f-fails is-2
-chosen-fine flags e cs l f (some i) = f-gives (set-fine cs i (configured flags e (counterAt cs i)) (configured-fine flags e (counterAt cs i) l) f)
+chosen-fine flags e cs l f (some i) =
+    f-gives (set-fine cs i (configured flags e (counterAt cs i)) (configured-fine flags e (counterAt cs i) l) f)
 
 plain-fine : (p : Platform) (v : View) → Fine (v .own) → (q : PlainRequest) → PlainFine (plainReply p v q)
 unfolding plainReply interruptReply fenceReply sendTo statusReply detailsReply configureReply counterStartReply counterStopReply readReply readHighReply
@@ -118,18 +127,25 @@ plain-fine p v f baseVendor = f-gives f
 plain-fine p v f baseArchitecture = f-gives f
 plain-fine p v f baseMachine = f-gives f
 plain-fine p v f (interrupt m base) = walk (λ _. f-fails is-3) (λ _. f-sends)
-plain-fine p v f (fence k m base s n i) = walk (λ _. f-fails is-3) (λ _. walk (λ _. f-fails is-3) (λ _. walk (λ _. f-fails is-2) (λ _. walk (λ _. f-fails is-5) (λ _. f-sends))))
+plain-fine p v f (fence k m base s n i) =
+    walk (λ _. f-fails is-3)
+    (λ _. walk (λ _. f-fails is-3) (λ _. walk (λ _. f-fails is-2) (λ _. walk (λ _. f-fails is-5) (λ _. f-sends))))
 plain-fine p v f (hartStatus k) = walk (λ _. f-fails is-3) (λ _. f-gives f)
 plain-fine p v f counterCount = f-gives f
 plain-fine p v f (counterDetails i) = walk (λ _. f-fails is-3) (λ _. f-gives f)
 plain-fine p v f (counterConfigure base m flags e d) =
-    walk (λ _. f-fails is-3) (λ _. walk (λ _. f-fails is-3) (λ _. walk (λ _. f-fails is-2) (λ is. walk (λ _. f-fails is-3) (λ _.
-    chosen-fine flags (e - firstEvent) (v .own) (event-code e (not-false _ is)) f (chosen flags (v .own) (counterSet p base m))))))
+    walk (λ _. f-fails is-3)
+    (λ _. walk (λ _. f-fails is-3) (λ _. walk (λ _. f-fails is-2) (λ is. walk (λ _. f-fails is-3) (λ _.
+    chosen-fine flags (e - firstEvent) (v .own) (event-code e (not-false _ is)) f
+    (chosen flags (v .own) (counterSet p base m))))))
 plain-fine p v f (counterStart base m flags x) =
-    walk (λ _. f-fails is-3) (λ _. walk (λ _. f-fails is-3) (λ _. walk (λ _. f-fails is-3) (λ mapped. walk (λ _. f-fails is-9) (λ _. walk (λ _. f-fails is-7) (λ _.
+    walk (λ _. f-fails is-3)
+    (λ _. walk (λ _. f-fails is-3)
+    (λ _. walk (λ _. f-fails is-3) (λ mapped. walk (λ _. f-fails is-9) (λ _. walk (λ _. f-fails is-7) (λ _.
     f-gives (begun-fine flags x (counterSet p base m) (v .own) (not-false _ mapped) f))))))
 plain-fine p v f (counterStop base m flags) =
-    walk (λ _. f-fails is-3) (λ _. walk (λ _. f-fails is-3) (λ _. walk (λ _. f-fails is-9) (λ _. walk (λ _. f-fails is-8) (λ _.
+    walk (λ _. f-fails is-3)
+    (λ _. walk (λ _. f-fails is-3) (λ _. walk (λ _. f-fails is-9) (λ _. walk (λ _. f-fails is-8) (λ _.
     f-gives (each-fine (ended flags) (ended-fine flags) (counterSet p base m) (v .own) f)))))
 plain-fine p v f (counterRead i) = walk (λ _. f-fails is-3) (λ _. f-gives f)
 plain-fine p v f (counterReadHigh i) = walk (λ _. f-fails is-3) (λ _. f-gives f)
@@ -143,7 +159,8 @@ counted-blank e = refl
 
 counted-fine : (e : ℕ) (c : Counter) → CounterFine c → CounterFine (counted e c)
 unfolding counted
-counted-fine e c f = if-both CounterFine _ (λ _. record { codes = f .codes; runs = f .runs; canonical = f .canonical }) (λ _. f)
+counted-fine e c f = if-both CounterFine _ (λ _. record { codes = f .codes; runs = f .runs; canonical = f .canonical })
+    (λ _. f)
 
 -- counter i after an event
 pub counted-at : (e : ℕ) (cs : List Counter) (i : ℕ) → counterAt (map (counted e) cs) i ≡ counted e (counterAt cs i)
@@ -151,7 +168,8 @@ unfolding counterAt
 counted-at e cs i = ap (getD (map (counted e) cs) i) (sym (counted-blank e)) ∙ List·getD-map (counted e) cs i blank
 
 pub event-fine : (e : ℕ) (cs : List Counter) → Fine cs → Fine (map (counted e) cs)
-event-fine e cs f = (length-map cs (counted e) ∙ f .0, λ i. rw (counted-at e cs i) (counted-fine e (counterAt cs i) (f .1 i)))
+event-fine e cs f =
+    (length-map cs (counted e) ∙ f .0, λ i. rw (counted-at e cs i) (counted-fine e (counterAt cs i) (f .1 i)))
 
 -- ----- every reply is a listed refusal, a listed error, or leaves the caller's counters fine
 
@@ -160,7 +178,8 @@ pub data ReplyFine : Reply → Type 0 where
   r-failed : {e : ℤ} → ListedError e → ReplyFine (failed e)
   r-did : {d : Done} → Fine (d .own) → ReplyFine (did d)
 
-stroll : {b : Bool} {x y : Reply} → (b ≡ true → ReplyFine x) → (b ≡ false → ReplyFine y) → ReplyFine (if b then x else y)
+stroll : {b : Bool} {x y : Reply} → (b ≡ true → ReplyFine x) → (b ≡ false → ReplyFine y)
+    → ReplyFine (if b then x else y)
 stroll {b} f g = if-both ReplyFine b f g
 
 plain-reply-fine : (v : View) → Fine (v .own) → {q : Plain} → PlainFine q → ReplyFine (plain v q)
@@ -175,10 +194,13 @@ moves-fine v k acts hs f = r-did f
 
 request-fine : (p : Platform) (v : View) (h : ℕ) → Fine (v .own) → (q : Request) → ReplyFine (requestReply p v h q)
 unfolding requestReply lifeReply startReply stopReply suspendReply
-request-fine p v h f (life (hartStart k a o)) = stroll (λ _. r-failed is-3) (λ _. stroll (λ _. r-failed is-6) (λ _. stroll (λ _. r-failed is-5) (λ _. moves-fine v _ _ _ f)))
+request-fine p v h f (life (hartStart k a o)) =
+    stroll (λ _. r-failed is-3)
+    (λ _. stroll (λ _. r-failed is-6) (λ _. stroll (λ _. r-failed is-5) (λ _. moves-fine v _ _ _ f)))
 request-fine p v h f (life hartStop) = moves-fine v _ _ _ f
 request-fine p v h f (life (hartSuspend y a o)) =
-    stroll (λ _. moves-fine v _ _ _ f) (λ _. stroll (λ _. r-failed is-3) (λ _. stroll (λ _. r-failed is-5) (λ _. moves-fine v _ _ _ f)))
+    stroll (λ _. moves-fine v _ _ _ f)
+    (λ _. stroll (λ _. r-failed is-3) (λ _. stroll (λ _. r-failed is-5) (λ _. moves-fine v _ _ _ f)))
 request-fine p v h f (other q) = plain-reply-fine v f (plain-fine p v f q)
 
 goesOn-fine : (v : View) (h : ℕ) (acts : List Action) (n : Next) → Fine (v .own) → ReplyFine (goesOn v h acts n)
@@ -191,4 +213,5 @@ unfolding enabledReply doneReply wakeReply eventReply
 enabled-fine p v (call room h r) f = stroll (λ _. r-refused is-H3) (λ _. request-fine p v h f _)
 enabled-fine p v (completion room h) f = goesOn-fine v h _ _ f
 enabled-fine p v (waking room h) f = goesOn-fine v h _ _ f
-enabled-fine p v (event h e) f = stroll (λ _. r-refused is-H6) (λ _. plain-reply-fine v f (f-gives (event-fine e (v .own) f)))
+enabled-fine p v (event h e) f = stroll (λ _. r-refused is-H6)
+    (λ _. plain-reply-fine v f (f-gives (event-fine e (v .own) f)))

@@ -14,7 +14,8 @@ use Rattle.rules.proofs.Logic.{false-true, and-r}
 use Rattle.rules.proofs.WellFormed.{tables-agree}
 
 -- a choice that is done was not refused
-pub if-did : (b : Bool) (k : ℕ) (r : Reply) (d : Done) → (if b then refused k else r) ≡ did d → (b ≡ false) × (r ≡ did d)
+pub if-did : (b : Bool) (k : ℕ) (r : Reply) (d : Done) → (if b then refused k else r) ≡ did d
+    → (b ≡ false) × (r ≡ did d)
 unfolding if_then_else_
 if-did true k r d e = let z : _≡_ {A = ℕ} 0 1 = cc in absurd (omega arith)
 if-did false k r d e = (refl, e)

@@ -34,13 +34,16 @@ sent-code HFENCE-VVMA-ASID = refl
 sent-code HFENCE-VVMA = refl
 
 -- a reply that is done did not fail
-if-sent : (v : View) (b : Bool) (e : ℤ) (q : Plain) (d : Done) → plain v (if b then fails e else q) ≡ did d → plain v q ≡ did d
+if-sent : (v : View) (b : Bool) (e : ℤ) (q : Plain) (d : Done) → plain v (if b then fails e else q) ≡ did d
+    → plain v q ≡ did d
 unfolding plain if_then_else_
 if-sent v true e q d i = let z : _≡_ {A = ℕ} 0 1 = cc in absurd (omega arith)
 if-sent v false e q d i = i
 
-module _ (p : Platform) (t : Tables) (room h : ℕ) (q : Registers) (d : Done) (done : reply p t (call room h q) ≡ did d) where
-  sent : (k s n i c : ℕ) → plain (view t h) (sendTo k s n i c (reached p (t .harts) (q .a0) (q .a1))) ≡ did d → Sends p t q d k s n i c
+module _ (p : Platform) (t : Tables) (room h : ℕ) (q : Registers) (d : Done)
+    (done : reply p t (call room h q) ≡ did d) where
+  sent : (k s n i c : ℕ) → plain (view t h) (sendTo k s n i c (reached p (t .harts) (q .a0) (q .a1))) ≡ did d
+      → Sends p t q d k s n i c
   unfolding plain sendTo view
   sent k s n i c e =
       let told : d .told ≡ reached p (t .harts) (q .a0) (q .a1) = cc in
@@ -54,10 +57,15 @@ module _ (p : Platform) (t : Tables) (room h : ℕ) (q : Registers) (d : Done) (
   interrupts : q .a7 ≡ IPI → Sends p t q d interruptKind 0 0 0 interruptSent
   unfolding requestReply plainReply interruptReply interruptRequest view
   interrupts a7 =
-      let e : plain (view t h) (plainReply p (view t h) (interruptRequest q)) ≡ did d = ap (requestReply p (view t h) h) (sym (ipi a7)) ∙ asked in
+      let e : plain (view t h) (plainReply p (view t h) (interruptRequest q)) ≡ did d =
+      ap (requestReply p (view t h) h) (sym (ipi a7)) ∙ asked in
       by-cases (eqb (q .a6) 0)
-      (λ y. sent _ _ _ _ _ (if-sent (view t h) _ _ _ d (ap (λ (r : PlainRequest). plain (view t h) (plainReply p (view t h) r)) (sym (if-true _ _ y)) ∙ e)))
-      (λ n. absurd (unknown-fails (ap (λ (r : PlainRequest). plain (view t h) (plainReply p (view t h) r)) (sym (if-false _ _ n)) ∙ e)))
+      (λ y. sent _ _ _ _ _
+      (if-sent (view t h) _ _ _ d
+      (ap (λ (r : PlainRequest). plain (view t h) (plainReply p (view t h) r)) (sym (if-true _ _ y)) ∙ e)))
+      (λ n. absurd
+      (unknown-fails
+      (ap (λ (r : PlainRequest). plain (view t h) (plainReply p (view t h) r)) (sym (if-false _ _ n)) ∙ e)))
     where
       ipi : q .a7 ≡ IPI → request q ≡ other (interruptRequest q)
       ipi a7 = unfold request if_then_else_ in rw a7 refl
@@ -66,7 +74,9 @@ module _ (p : Platform) (t : Tables) (room h : ℕ) (q : Registers) (d : Done) (
       unknown-fails e = unfold plain plainReply in (let z : _≡_ {A = ℕ} 0 1 = cc in omega arith)
 
   fence-asked : (f : Fence) → q .a7 ≡ RFENCE → q .a6 ≡ functionOf f
-      → request q ≡ other (fence (functionOf f) (q .a0) (q .a1) (startIn (operandsOf f) q) (sizeIn (operandsOf f) q) (idIn (operandsOf f) q))
+      → request q ≡ other
+      (fence (functionOf f) (q .a0) (q .a1) (startIn (operandsOf f) q) (sizeIn (operandsOf f) q)
+      (idIn (operandsOf f) q))
   unfolding request fenceRequest if_then_else_
   fence-asked FENCE-I a7 a6 = rw (a7, a6) refl
   fence-asked SFENCE-VMA a7 a6 = rw (a7, a6) refl
@@ -77,12 +87,15 @@ module _ (p : Platform) (t : Tables) (room h : ℕ) (q : Registers) (d : Done) (
   fence-asked HFENCE-VVMA a7 a6 = rw (a7, a6) refl
 
   fences : (f : Fence) → q .a7 ≡ RFENCE → q .a6 ≡ functionOf f
-      → Sends p t q d (fenceKind + functionOf f) (startIn (operandsOf f) q) (sizeIn (operandsOf f) q) (idIn (operandsOf f) q) (sentEvent f)
+      → Sends p t q d (fenceKind + functionOf f) (startIn (operandsOf f) q) (sizeIn (operandsOf f) q)
+      (idIn (operandsOf f) q) (sentEvent f)
   unfolding requestReply plainReply fenceReply view
   fences f a7 a6 =
       let e = ap (requestReply p (view t h) h) (sym (fence-asked f a7 a6)) ∙ asked in
-      let last = if-sent (view t h) _ _ _ d (if-sent (view t h) _ _ _ d (if-sent (view t h) _ _ _ d (if-sent (view t h) _ _ _ d e))) in
+      let last = if-sent (view t h) _ _ _ d
+      (if-sent (view t h) _ _ _ d (if-sent (view t h) _ _ _ d (if-sent (view t h) _ _ _ d e))) in
       subst (Sends p t q d _ _ _ _) (sent-code f) (sent _ _ _ _ _ last)
 
 pub calls-reach-exactly : CallsReachExactly
-calls-reach-exactly p t room h q d done = record { interrupts = interrupts p t room h q d done; fences = fences p t room h q d done }
+calls-reach-exactly p t room h q d done =
+    record { interrupts = interrupts p t room h q d done; fences = fences p t room h q d done }

@@ -101,7 +101,8 @@ goes-one g-stop g-stop = refl
 goes-one g-stopped g-stopped = refl
 
 -- so a run is settled by its place and its events
-pub run-one : {p q q′ : Place} {ms ms′ : List Mark} → Run p ms q → Run p ms′ q′ → events ms ≡ events ms′ → (ms ≡ ms′) × (q ≡ q′)
+pub run-one : {p q q′ : Place} {ms ms′ : List Mark} → Run p ms q → Run p ms′ q′ → events ms ≡ events ms′
+    → (ms ≡ ms′) × (q ≡ q′)
 run-one here here e = (refl, refl)
 run-one here (next g v) e = (cc, cc)
 run-one (next g u) here e = (cc, cc)
@@ -121,9 +122,11 @@ run-last (next g u) = run-last u
 -- what may yet come at a place
 data Rest : Place → List Mark → Type 0 where
   r-off : (ls : List Life) → Rest off (row ls)
-  r-up : (rs : List Round) (ls : List Life) → Rest up (rounds rs (stop named STOP-PENDING ∷ done named STOPPED ∷ row ls))
+  r-up : (rs : List Round) (ls : List Life)
+      → Rest up (rounds rs (stop named STOP-PENDING ∷ done named STOPPED ∷ row ls))
   r-starting : {k : List Mark} → Rest up k → Rest starting (done named STARTED ∷ k)
-  r-falling : {k : List Mark} → Rest up k → Rest falling (done named SUSPENDED ∷ wake named RESUME-PENDING ∷ done named STARTED ∷ k)
+  r-falling : {k : List Mark} → Rest up k
+      → Rest falling (done named SUSPENDED ∷ wake named RESUME-PENDING ∷ done named STARTED ∷ k)
   r-asleep : {k : List Mark} → Rest up k → Rest asleep (wake named RESUME-PENDING ∷ done named STARTED ∷ k)
   r-waking : {k : List Mark} → Rest up k → Rest waking (done named STARTED ∷ k)
   r-stopping : (ls : List Life) → Rest stopping (done named STOPPED ∷ row ls)
@@ -158,11 +161,13 @@ off-row (r-off ls) = (ls, refl)
 -- a reading, told by a run; and back
 pub read-run : {es : List Event} (r : Reading es) → (p : Place) × Run off (r .front) p × (placed r ≡ name p)
 read-run r =
-    let v = front-run (r .front) (r .back) (subst (λ (z : List Mark). Run off z off) (sym (r .whole)) (row-run (r .lives))) in
+    let v = front-run (r .front) (r .back)
+    (subst (λ (z : List Mark). Run off z off) (sym (r .whole)) (row-run (r .lives))) in
     (v .0, v .1, run-last (v .1))
 
 pub run-read : {p : Place} {ms : List Mark} → Run off ms p → Reading (events ms)
-run-read {ms} u = let v = run-front u in let w = off-row (v .1) in record { lives = w .0; front = ms; back = v .0; whole = w .1; said = refl }
+run-read {ms} u = let v = run-front u in let w = off-row (v .1) in
+    record { lives = w .0; front = ms; back = v .0; whole = w .1; said = refl }
 
 -- No row can be read in two ways: the events settle the whole front, statuses and all.
 pub one-reading : {es : List Event} (r s : Reading es) → r .front ≡ s .front
@@ -173,12 +178,14 @@ one-place r s = ap (last STOPPED) (one-reading r s)
 
 -- Nor can a whole row: its events settle its lives and their rounds.
 rounds-one : (rs rs′ : List Round) (k k′ : List Mark)
-    → events (rounds rs (stop named STOP-PENDING ∷ done named STOPPED ∷ k)) ≡ events (rounds rs′ (stop named STOP-PENDING ∷ done named STOPPED ∷ k′))
+    → events (rounds rs (stop named STOP-PENDING ∷ done named STOPPED ∷ k)) ≡ events
+    (rounds rs′ (stop named STOP-PENDING ∷ done named STOPPED ∷ k′))
     → (rs ≡ rs′) × (events k ≡ events k′)
 rounds-one [] [] k k′ e = (refl, cc)
 rounds-one [] (sleep ∷ rs′) k k′ e = (cc, cc)
 rounds-one (sleep ∷ rs) [] k k′ e = (cc, cc)
-rounds-one (sleep ∷ rs) (sleep ∷ rs′) k k′ e = let v = rounds-one rs rs′ k k′ cc in (ap (λ (r : List Round). sleep ∷ r) (v .0), v .1)
+rounds-one (sleep ∷ rs) (sleep ∷ rs′) k k′ e = let v = rounds-one rs rs′ k k′ cc in
+    (ap (λ (r : List Round). sleep ∷ r) (v .0), v .1)
 
 pub one-row : (ls ls′ : List Life) → events (row ls) ≡ events (row ls′) → ls ≡ ls′
 one-row [] [] e = refl
@@ -189,7 +196,8 @@ one-row (l ∷ ls) (l′ ∷ ls′) e =
     ap₂ {C = List Life} (λ a b. a ∷ b) (v .0) (one-row ls ls′ (v .1))
 
 -- an event fits after a run where the place lets it go
-pub run-next : {p q q′ : Place} {ms ms′ : List Mark} {e : Event} → Run p ms q → Run p ms′ q′ → events ms′ ≡ events ms ++ (e ∷ []) → (r : Place) × Goes q e r
+pub run-next : {p q q′ : Place} {ms ms′ : List Mark} {e : Event} → Run p ms q → Run p ms′ q′
+    → events ms′ ≡ events ms ++ (e ∷ []) → (r : Place) × Goes q e r
 run-next here here i = let z : _≡_ {A = ℕ} 0 1 = cc in absurd (omega arith)
 run-next {p} {e} here (next {q = r} {e = x} g u) i = let xe : x ≡ e = cc in (r, subst (λ (z : Event). Goes p z r) xe g)
 run-next (next g u) here i = let z : _≡_ {A = ℕ} 0 1 = cc in absurd (omega arith)

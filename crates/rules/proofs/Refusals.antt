@@ -73,5 +73,6 @@ counters-apart p op t t′ a =
     record {
       answer = ap answerOf e;
       actions = ap actionsOf e;
-      harts = same-harts (hartOf op) t t′ (a .harts) (reply p t op) ∙ ap (λ (r : Reply). commit t′ (hartOf op) r .harts) e;
+      harts = same-harts (hartOf op) t t′ (a .harts) (reply p t op)
+          ∙ ap (λ (r : Reply). commit t′ (hartOf op) r .harts) e;
     }

@@ -1,4 +1,5 @@
--- Laws of sets of numbers: every, those, keep and all, membership, ascending lists, and the numbers that a mask selects.
+-- Laws of sets of numbers: every, those, keep and all, membership, ascending lists, and the numbers that a mask
+-- selects.
 use mathlib.Core.Path.{_≡_, refl, sym, ap, ap₂, _∙_, subst}
 use mathlib.Core.Bool.{Bool, true, false, _&&_, and-false}
 use mathlib.Core.List.{List, [], _∷_, _++_, append-nil, List·Memᴰ, List·Memᴰ·head, Memᴰ·append-left}

@@ -4,10 +4,12 @@ use Rattle.rules.specs.Promises.{CounterSetsExact, LivesHold, ReadOnce, 
 use Rattle.rules.specs.Promises.{PlatformTestAgrees, TablesTestAgrees, FreshWellFormed, WellFormedKept}
 use Rattle.rules.specs.Promises.{MasksExact, CallsReachExactly, EventsAddOne, EventsCounted}
 use Rattle.rules.specs.Promises.{TrafficCountedExactly, CountersOutliveStates, CountersApart, EdgesHold}
+use Rattle.rules.specs.Promises.{RegisterValues}
 use Rattle.rules.specs.Edges.{computed, edges}
 use Rattle.rules.specs.Tables.{wellFormed}
 use Rattle.rules.specs.Machine.{after}
 use Rattle.rules.specs.Platform.{platformAccepted}
+use Rattle.rules.specs.Replies.{register}
 use Rattle.rules.proofs.Logic.{and-l, and-r, and-of}
 use Rattle.rules.proofs.WellFormed.{platform-agrees, tables-agree}
 use Rattle.rules.proofs.Readings.{one-reading, one-row}
@@ -35,6 +37,11 @@ refusals-alter-nothing = Refusals.refusals-alter-nothing
 -- every refusal and every error is one that document 01 lists
 pub refusals-listed : RefusalsListed
 refusals-listed = Refusals.refusals-listed
+
+-- -3 stands in the register as 18446744073709551613, and so for success and each error
+pub register-values : RegisterValues
+unfolding register
+register-values = refl
 
 -- the test of a platform says what its statement says
 pub platform-test-agrees : PlatformTestAgrees

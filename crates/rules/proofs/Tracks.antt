@@ -33,7 +33,8 @@ pub record Tracks (h : ℕ) (hs : List Hart) (es : List Event) : Type 0 where
   pub said : events marks ≡ es
   pub stands : Stands place (hartAt hs h)
 
-run-snoc : {a b c : Place} {ms : List Mark} {e : Event} → Run a ms b → Goes b e c → Run a (ms ++ (e named name c ∷ [])) c
+run-snoc : {a b c : Place} {ms : List Mark} {e : Event} → Run a ms b → Goes b e c
+    → Run a (ms ++ (e named name c ∷ [])) c
 run-snoc here g = next g here
 run-snoc (next f u) g = next f (run-snoc u g)
 
@@ -53,7 +54,8 @@ module _ (p : Platform) (h : ℕ) where
   track-effect : (hs : List Hart) → length hs ≡ harts → (es : List Event) → Tracks h hs es
       → {rs : List InRow} {after : List Hart} → Effect p hs rs after → Tracks h after (es ++ ofHart h rs)
   track-effect hs long es T still = rw append-nil T
-  track-effect hs long es T (moved {k} {e} x on lead) = if-both (λ (l : List Event). Tracks h (set hs k x) (es ++ l)) (eqb h k) hit miss
+  track-effect hs long es T (moved {k} {e} x on lead) =
+      if-both (λ (l : List Event). Tracks h (set hs k x) (es ++ l)) (eqb h k) hit miss
     where
       hit : eqb h k ≡ true → Tracks h (set hs k x) (es ++ (e ∷ []))
       hit i =
@@ -64,7 +66,8 @@ module _ (p : Platform) (h : ℕ) where
             marks = T .marks ++ (e named name (to .0) ∷ []);
             run = run-snoc (T .run) (to .1);
             said = events-append (T .marks) _ ∙ ap (λ (l : List Event). l ++ (e ∷ [])) (T .said);
-            stands = subst (Stands (to .0)) (sym (ap (hartAt (set hs k x)) hk ∙ hart-put-same hs k x (rw long (enabled-under p k on)))) (to .2);
+            stands = subst (Stands (to .0))
+                (sym (ap (hartAt (set hs k x)) hk ∙ hart-put-same hs k x (rw long (enabled-under p k on)))) (to .2);
           }
 
       miss : eqb h k ≡ false → Tracks h (set hs k x) (es ++ [])
@@ -77,17 +80,20 @@ module _ (p : Platform) (h : ℕ) where
       })
 
   track-lawful : (t : Tables) (j : ℕ) → length (t .harts) ≡ harts → (es : List Event) → Tracks h (t .harts) es
-      → {rs : List InRow} {r : Reply} → Lawful p (t .harts) rs r → Tracks h (commit t j r .harts) (es ++ (if accepted r then ofHart h rs else []))
+      → {rs : List InRow} {r : Reply} → Lawful p (t .harts) rs r
+      → Tracks h (commit t j r .harts) (es ++ (if accepted r then ofHart h rs else []))
   unfolding if_then_else_ commit
   track-lawful t j long es T l-refused = rw append-nil T
   track-lawful t j long es T l-failed = rw append-nil T
   track-lawful t j long es T (l-did e) = track-effect (t .harts) long es T e
 
-  pub track : (t : Tables) → TablesWellFormed p t → (es : List Event) → Tracks h (t .harts) es → (op : Operation) → Tracks h (after p t op .harts) (es ++ adds p h t op)
+  pub track : (t : Tables) → TablesWellFormed p t → (es : List Event) → Tracks h (t .harts) es → (op : Operation)
+      → Tracks h (after p t op .harts) (es ++ adds p h t op)
   unfolding after adds
   track t w es T op = track-lawful t (hartOf op) (w .records) es T (reply-lawful p t op)
 
-  pub track-all : (t : Tables) → TablesWellFormed p t → (es : List Event) → Tracks h (t .harts) es → (ops : List Operation)
+  pub track-all : (t : Tables) → TablesWellFormed p t → (es : List Event) → Tracks h (t .harts) es
+      → (ops : List Operation)
       → Tracks h (afterAll p t ops .harts) (es ++ rowOf p h t ops)
   track-all t w es T [] = rw append-nil T
   track-all t w es T (op ∷ ops) =
@@ -105,14 +111,16 @@ module _ (p : Platform) (h : ℕ) where
         said = refl;
         stands = subst (Stands up)
             (sym (ap (hartAt (fresh p .harts)) (eqb-true h (p .boot) e)
-            ∙ hart-put-same (replicate harts (idle STOPPED)) (p .boot) (idle STARTED) (rw length-replicate (enabled-under p (p .boot) on)))) (record { state = refl });
+            ∙ hart-put-same (replicate harts (idle STOPPED)) (p .boot) (idle STARTED)
+            (rw length-replicate (enabled-under p (p .boot) on)))) (record { state = refl });
       })
       (λ e. record {
         place = off;
         marks = [];
         run = here;
         said = refl;
-        stands = subst (Stands off) (sym (hart-put-other _ _ _ _ (eqb-false h (p .boot) e) ∙ idle-repeat h)) (record { state = refl });
+        stands = subst (Stands off) (sym (hart-put-other _ _ _ _ (eqb-false h (p .boot) e) ∙ idle-repeat h))
+            (record { state = refl });
       })
     where
       idle-repeat : (h : ℕ) → hartAt (replicate harts (idle STOPPED)) h ≡ idle STOPPED

@@ -1,4 +1,5 @@
--- The promises on counters: reported events, the events of interrupts and fences, and that no change of state alters any.
+-- The promises on counters: reported events, the events of interrupts and fences, and that no change of state alters
+-- any.
 use mathlib.Core.List.{_∷_, List, [], map}
 use mathlib.Core.Bool.{true, false, Bool}
 use mathlib.Core.Path.{refl, _≡_, ap, _∙_}
@@ -37,7 +38,8 @@ module _ (p : Platform) (t : Tables) (op : Operation) (d : Done) (e : reply p t 
   passed : Passed p t op d
   passed = did-passed p t op d e
 
-  counters-after : after p t op .counters ≡ tell (hartOf op) (d .code) (d .told) (set (t .counters) (hartOf op) (d .own))
+  counters-after : after p t op .counters ≡ tell (hartOf op) (d .code) (d .told)
+      (set (t .counters) (hartOf op) (d .own))
   unfolding after commit
   counters-after = ap (λ (r : Reply). commit t (hartOf op) r .counters) e
 
@@ -65,9 +67,11 @@ traffic-counted-exactly p t op d e = traffic p t op d e
 -- ----- a reported event
 
 abbrev eventDone : View → ℕ → Done
-eventDone v e = record { value = 0; parked = false; actions = []; harts = v .harts; own = map (counted e) (v .own); code = 0; told = [] }
+eventDone v e = record
+    { value = 0; parked = false; actions = []; harts = v .harts; own = map (counted e) (v .own); code = 0; told = [] }
 
-event-done : (p : Platform) (t : Tables) (h e : ℕ) (d : Done) → reply p t (event h e) ≡ did d → d ≡ eventDone (view t h) e
+event-done : (p : Platform) (t : Tables) (h e : ℕ) (d : Done) → reply p t (event h e) ≡ did d
+    → d ≡ eventDone (view t h) e
 unfolding enabledReply eventReply plain
 event-done p t h e d q = let r = if-did _ _ _ d (did-passed p t (event h e) d q .replied) .1 in cc
 
@@ -79,7 +83,8 @@ event-counted p t h e d q =
       own = λ i. traffic p t (event h e) d q .sent i ∙ rw same (counted-at e (ownAt t h) i);
       others = λ k away.
           ap (λ (cs : List (List Counter)). getD cs k [])
-          (counters-after p t (event h e) d q ∙ ap (λ (x : Done). tell h (x .code) (x .told) (set (t .counters) h (x .own))) same)
+          (counters-after p t (event h e) d q
+          ∙ ap (λ (x : Done). tell h (x .code) (x .told) (set (t .counters) h (x .own))) same)
           ∙ getD-set-other (t .counters) h k _ [] away;
       harts = ap (λ (r : Reply). commit t h r .harts) q ∙ ap (λ (x : Done). x .harts) same;
     }
@@ -95,7 +100,8 @@ data CountersStay (v : View) : Reply → Type 0 where
   s-failed : {e : ℤ} → CountersStay v (failed e)
   s-did : {d : Done} → d .own ≡ v .own → d .told ≡ [] → CountersStay v (did d)
 
-walk : {v : View} {b : Bool} {x y : Reply} → (b ≡ true → CountersStay v x) → (b ≡ false → CountersStay v y) → CountersStay v (if b then x else y)
+walk : {v : View} {b : Bool} {x y : Reply} → (b ≡ true → CountersStay v x) → (b ≡ false → CountersStay v y)
+    → CountersStay v (if b then x else y)
 walk {v} {b} f g = if-both (CountersStay v) b f g
 
 moves-stay : (v : View) (k : Bool) (acts : List Action) (hs : List Hart) → CountersStay v (moves v k acts hs)
@@ -104,11 +110,14 @@ moves-stay v k acts hs = s-did refl refl
 
 life-stay : (p : Platform) (v : View) (h : ℕ) (q : LifeRequest) → CountersStay v (lifeReply p v h q)
 unfolding lifeReply startReply stopReply suspendReply
-life-stay p v h (hartStart k a o) = walk (λ _. s-failed) (λ _. walk (λ _. s-failed) (λ _. walk (λ _. s-failed) (λ _. moves-stay v _ _ _)))
+life-stay p v h (hartStart k a o) = walk (λ _. s-failed)
+    (λ _. walk (λ _. s-failed) (λ _. walk (λ _. s-failed) (λ _. moves-stay v _ _ _)))
 life-stay p v h hartStop = moves-stay v _ _ _
-life-stay p v h (hartSuspend y a o) = walk (λ _. moves-stay v _ _ _) (λ _. walk (λ _. s-failed) (λ _. walk (λ _. s-failed) (λ _. moves-stay v _ _ _)))
+life-stay p v h (hartSuspend y a o) =
+    walk (λ _. moves-stay v _ _ _) (λ _. walk (λ _. s-failed) (λ _. walk (λ _. s-failed) (λ _. moves-stay v _ _ _)))
 
-request-stay : (p : Platform) (v : View) (h : ℕ) (q : Request) (e : InRow) → requestEvent h q ≡ e ∷ [] → CountersStay v (requestReply p v h q)
+request-stay : (p : Platform) (v : View) (h : ℕ) (q : Request) (e : InRow) → requestEvent h q ≡ e ∷ []
+    → CountersStay v (requestReply p v h q)
 unfolding requestReply
 request-stay p v h (life q) e i = life-stay p v h q
 request-stay p v h (other q) e i = let z : _≡_ {A = ℕ} 0 1 = cc in absurd (omega arith)
@@ -118,16 +127,19 @@ unfolding goesOn
 goesOn-stay v h acts (To x) = moves-stay v _ _ _
 goesOn-stay v h acts Forbidden = s-refused
 
-enabled-stay : (p : Platform) (v : View) (op : Operation) (e : InRow) → eventOf op ≡ e ∷ [] → CountersStay v (enabledReply p v op)
+enabled-stay : (p : Platform) (v : View) (op : Operation) (e : InRow) → eventOf op ≡ e ∷ []
+    → CountersStay v (enabledReply p v op)
 unfolding enabledReply doneReply wakeReply
 enabled-stay p v (call room h r) e i = walk (λ _. s-refused) (λ _. request-stay p v h (request r) e i)
 enabled-stay p v (completion room h) e i = goesOn-stay v h _ _
 enabled-stay p v (waking room h) e i = goesOn-stay v h _ _
 enabled-stay p v (event h c) e i = let z : _≡_ {A = ℕ} 0 1 = cc in absurd (omega arith)
 
-reply-stay : (p : Platform) (t : Tables) (op : Operation) (e : InRow) → eventOf op ≡ e ∷ [] → CountersStay (view t (hartOf op)) (reply p t op)
+reply-stay : (p : Platform) (t : Tables) (op : Operation) (e : InRow) → eventOf op ≡ e ∷ []
+    → CountersStay (view t (hartOf op)) (reply p t op)
 unfolding reply checkedReply
-reply-stay p t op e i = walk (λ _. s-refused) (λ _. walk (λ _. s-refused) (λ _. walk (λ _. s-refused) (λ _. enabled-stay p (view t (hartOf op)) op e i)))
+reply-stay p t op e i = walk (λ _. s-refused)
+    (λ _. walk (λ _. s-refused) (λ _. walk (λ _. s-refused) (λ _. enabled-stay p (view t (hartOf op)) op e i)))
 
 stay-same : (t : Tables) (h : ℕ) (r : Reply) → CountersStay (view t h) r → commit t h r .counters ≡ t .counters
 unfolding commit tell view ownAt

@@ -67,7 +67,8 @@ platform-agrees p = (there, back)
           boot = and-l (enabled p (p .boot)) _ e;
           hypervisors = λ h y.
               not-or-inv (hypervisor p h) (enabled p h)
-              (every-at (λ k. not (hypervisor p k) || enabled p k) harts h (has-under (p .hypervisor) h y) (and-l _ _ e1)) y;
+              (every-at (λ k. not (hypervisor p k) || enabled p k) harts h (has-under (p .hypervisor) h y)
+              (and-l _ _ e1)) y;
           ranges = leb-true (p .used) 8 (and-l _ _ e2);
           asid = leb-true (p .asid) 16 (and-l _ _ e3);
           vmid = leb-true (p .vmid) 14 (and-l _ _ e4);
@@ -77,7 +78,8 @@ platform-agrees p = (there, back)
     back : PlatformAccepted p → platformAccepted p ≡ true
     back a =
         and-of (a .boot)
-        (and-of (every-of (λ h. not (hypervisor p h) || enabled p h) harts (λ h l. not-or (hypervisor p h) (enabled p h) (a .hypervisors h)))
+        (and-of (every-of (λ h. not (hypervisor p h) || enabled p h) harts
+        (λ h l. not-or (hypervisor p h) (enabled p h) (a .hypervisors h)))
         (and-of (le-leb (p .used) 8 (a .ranges))
         (and-of (le-leb (p .asid) 16 (a .asid))
         (and-of (le-leb (p .vmid) 14 (a .vmid))
@@ -134,7 +136,8 @@ pub blank-fine : CounterFine blank
 blank-fine = record { codes = λ e. zero-le; runs = λ e. e; canonical = λ e. refl }
 
 -- of an enabled hart's counter
-on-there : (c : Counter) → (if c .mapped then leb (c .code) lastCode else (not (c .running) && eqb (c .code) 0)) ≡ true → CounterFine c
+on-there : (c : Counter) → (if c .mapped then leb (c .code) lastCode else (not (c .running) && eqb (c .code) 0)) ≡ true
+    → CounterFine c
 on-there c e =
     by-cases (c .mapped)
     (λ m. record {
@@ -150,7 +153,8 @@ on-there c e =
       canonical = λ _. eqb-true _ _ (and-r (not (c .running)) _ u);
     })
 
-on-back : (c : Counter) → CounterFine c → (if c .mapped then leb (c .code) lastCode else (not (c .running) && eqb (c .code) 0)) ≡ true
+on-back : (c : Counter) → CounterFine c
+    → (if c .mapped then leb (c .code) lastCode else (not (c .running) && eqb (c .code) 0)) ≡ true
 on-back c f =
     by-cases (c .mapped)
     (λ m. if-true _ _ m ∙ le-leb (c .code) lastCode (f .codes m))
@@ -158,7 +162,8 @@ on-back c f =
     if-false _ _ m
     ∙ and-of (not-off (false-if (c .running) (λ r. clash (f .runs r) m))) (eq-eqb _ _ (f .canonical m)))
 
-pub counter-agrees : (on : Bool) (c : Counter) → counterWellFormed on c ≡ true ↔ (CounterFine c × (on ≡ false → c ≡ blank))
+pub counter-agrees : (on : Bool) (c : Counter) → counterWellFormed on c ≡ true
+    ↔ (CounterFine c × (on ≡ false → c ≡ blank))
 unfolding counterWellFormed isBlank
 counter-agrees on c = (there, back)
   where
@@ -183,18 +188,22 @@ unfolding counterAt
 counter-over cs i l = List·getD-eq-default cs blank l
 
 pub own-agrees : (p : Platform) (h : ℕ) (cs : List Counter)
-    → ((length cs ≡ counters) × (every counters (λ i. counterWellFormed (enabled p h) (counterAt cs i)) ≡ true)) ↔ OwnFine p h cs
+    → ((length cs ≡ counters) × (every counters (λ i. counterWellFormed (enabled p h) (counterAt cs i)) ≡ true))
+    ↔ OwnFine p h cs
 own-agrees p h cs = (there, back)
   where
-    there : (length cs ≡ counters) × (every counters (λ i. counterWellFormed (enabled p h) (counterAt cs i)) ≡ true) → OwnFine p h cs
+    there : (length cs ≡ counters) × (every counters (λ i. counterWellFormed (enabled p h) (counterAt cs i)) ≡ true)
+        → OwnFine p h cs
     there e =
         let each : (i : ℕ) → CounterFine (counterAt cs i) × (enabled p h ≡ false → counterAt cs i ≡ blank) =
         λ i. below-or i counters
-        (λ l. counter-agrees (enabled p h) (counterAt cs i) .0 (every-at (λ k. counterWellFormed (enabled p h) (counterAt cs k)) counters i l (e .1)))
+        (λ l. counter-agrees (enabled p h) (counterAt cs i) .0
+        (every-at (λ k. counterWellFormed (enabled p h) (counterAt cs k)) counters i l (e .1)))
         (λ g. let same = counter-over cs i (rw (e .0) g) in (rw same blank-fine, λ _. same)) in
         record { eight = e .0; fine = λ i. each i .0; unused = λ off i. each i .1 off }
 
-    back : OwnFine p h cs → (length cs ≡ counters) × (every counters (λ i. counterWellFormed (enabled p h) (counterAt cs i)) ≡ true)
+    back : OwnFine p h cs
+        → (length cs ≡ counters) × (every counters (λ i. counterWellFormed (enabled p h) (counterAt cs i)) ≡ true)
     back f = (
       f .eight,
       every-of (λ k. counterWellFormed (enabled p h) (counterAt cs k)) counters
@@ -210,19 +219,25 @@ tables-agree p t = (there, back)
         let s = and-l (shaped t) (every harts (hartRowWellFormed p t)) e in
         let s1 = and-r (eqb (length (t .harts)) harts) _ s in
         let eight : (h : ℕ) → h < harts → length (ownAt t h) ≡ counters =
-        λ h l. eqb-true _ _ (every-at (λ k. eqb (length (ownAt t k)) counters) harts h l (and-r (eqb (length (t .counters)) harts) _ s1)) in
-        let row : (h : ℕ) → h < harts → hartRowWellFormed p t h ≡ true = λ h l. every-at (hartRowWellFormed p t) harts h l (and-r (shaped t) _ e) in
+        λ h l. eqb-true _ _
+        (every-at (λ k. eqb (length (ownAt t k)) counters) harts h l
+        (and-r (eqb (length (t .counters)) harts) _ s1)) in
+        let row : (h : ℕ) → h < harts → hartRowWellFormed p t h ≡ true =
+        λ h l. every-at (hartRowWellFormed p t) harts h l (and-r (shaped t) _ e) in
         record {
           records = eqb-true _ _ (and-l _ _ s);
           rows = eqb-true _ _ (and-l _ _ s1);
           hart = λ h l. hart-agrees p h (hartAt (t .harts) h) .0 (and-l _ _ (row h l));
-          own = λ h l. own-agrees p h (ownAt t h) .0 (eight h l, and-r (hartWellFormed (enabled p h) (hartAt (t .harts) h)) _ (row h l));
+          own = λ h l. own-agrees p h (ownAt t h) .0
+              (eight h l, and-r (hartWellFormed (enabled p h) (hartAt (t .harts) h)) _ (row h l));
         }
 
     back : TablesWellFormed p t → tablesWellFormed p t ≡ true
     back w =
         and-of
         (and-of (eq-eqb _ _ (w .records))
-        (and-of (eq-eqb _ _ (w .rows)) (every-of (λ k. eqb (length (ownAt t k)) counters) harts (λ h l. eq-eqb _ _ (w .own h l .eight)))))
+        (and-of (eq-eqb _ _ (w .rows))
+        (every-of (λ k. eqb (length (ownAt t k)) counters) harts (λ h l. eq-eqb _ _ (w .own h l .eight)))))
         (every-of (hartRowWellFormed p t) harts
-        (λ h l. and-of (hart-agrees p h (hartAt (t .harts) h) .1 (w .hart h l)) (own-agrees p h (ownAt t h) .1 (w .own h l) .1)))
+        (λ h l. and-of (hart-agrees p h (hartAt (t .harts) h) .1 (w .hart h l))
+        (own-agrees p h (ownAt t h) .1 (w .own h l) .1)))

@@ -1,5 +1,6 @@
 -- One choice for every definition: `if test then this else that`.
--- It stays shut until a proof opens it, so that a goal shows its test and both arms; its laws are in proofs/Logic.
+-- It stays shut until a proof opens it, so that a goal shows its test and both arms; its laws are
+-- in proofs/Logic.
 use mathlib.Core.Bool.{Bool, true, false}
 
 module _ {A : Type 0} where

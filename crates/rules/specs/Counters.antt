@@ -18,7 +18,8 @@ use Rattle.rules.specs.Replies.{View, Reply, refused, Plain, fails, give
 use Rattle.rules.specs.declared.platform.Platform.{Platform}
 use Rattle.rules.specs.declared.records.Counter.{Counter}
 
--- "Set: bit i is counter base + i without wrapping; numbers over 7 are -3. Here base 2^64 - 1 has no special meaning."
+-- "Set: bit i is counter base + i without wrapping; numbers over 7 are -3. Here base 2^64 - 1 has
+-- no special meaning."
 unfoldable pub counterSet : Platform → (base mask : ℕ) → List ℕ
 counterSet p base m = numbers (width p) base m
 
@@ -49,13 +50,19 @@ detailsReply cs i = if not (isCounter i) then fails invalidParam else gives (2 ^
 unfoldable pub isEvent : ℕ → Bool
 isEvent e = leb firstEvent e && leb e lastEvent
 
--- "Chosen is the lowest counter of the set that is not running; with skip (bit 0) the lowest of the set, running or not."
+-- "Chosen is the lowest counter of the set that is not running; with skip (bit 0) the lowest of the
+-- set, running or not."
 unfoldable pub chosen : (flags : ℕ) → List Counter → (set : List ℕ) → Option ℕ
 chosen flags cs is = first (keep (λ i. bit flags 0 || notRunning cs i) is)
 
 -- "It is mapped. Bit 1 clears its value; bit 2 sets it running; otherwise value and running stay."
 unfoldable pub configured : (flags code : ℕ) → Counter → Counter
-configured flags e c = record { mapped = true; code = e; running = bit flags 2 || c .running; value = if bit flags 1 then 0 else c .value }
+configured flags e c = record {
+  mapped = true;
+  code = e;
+  running = bit flags 2 || c .running;
+  value = if bit flags 1 then 0 else c .value;
+}
 
 -- "The value returned is the counter."
 unfoldable pub configureChosen : (flags code : ℕ) → List Counter → Option ℕ → Plain
@@ -75,9 +82,15 @@ configureReply p cs base m flags e d =
 
 -- "Bit 0 loads a3."
 unfoldable pub begun : (flags initial : ℕ) → Counter → Counter
-begun flags x c = record { mapped = c .mapped; code = c .code; running = true; value = if bit flags 0 then x else c .value }
+begun flags x c = record {
+  mapped = c .mapped;
+  code = c .code;
+  running = true;
+  value = if bit flags 0 then x else c .value;
+}
 
--- "Start: flags above bit 1 (-3), counters (-3), an unmapped counter (-3, house), bit 1 (-9), any running (-7)."
+-- "Start: flags above bit 1 (-3), counters (-3), an unmapped counter (-3, house), bit 1 (-9), any
+-- running (-7)."
 unfoldable pub counterStartReply : Platform → List Counter → (base mask flags initial : ℕ) → Plain
 counterStartReply p cs base m flags x =
     if leb (2 ^ 2) flags then fails invalidParam
@@ -89,7 +102,12 @@ counterStartReply p cs base m flags x =
 
 -- "Bit 0 also unmaps; the value stays."
 unfoldable pub ended : (flags : ℕ) → Counter → Counter
-ended flags c = record { mapped = c .mapped && not (bit flags 0); code = if bit flags 0 then 0 else c .code; running = false; value = c .value }
+ended flags c = record {
+  mapped = c .mapped && not (bit flags 0);
+  code = if bit flags 0 then 0 else c .code;
+  running = false;
+  value = c .value;
+}
 
 -- "Stop: flags above bit 1 (-3), counters (-3), bit 1 (-9), any not running (-8)."
 unfoldable pub counterStopReply : Platform → List Counter → (base mask flags : ℕ) → Plain
@@ -100,13 +118,16 @@ counterStopReply p cs base m flags =
     else if not (all (isRunning cs) (counterSet p base m)) then fails alreadyStopped
     else gives 0 (each (ended flags) (counterSet p base m) cs)
 
--- ----- "Read (FID 5): over 7 or unmapped is -3 (house), never a zero. High read (FID 6): the same refusals, else 0."
+-- ----- "Read (FID 5): over 7 or unmapped is -3 (house), never a zero. High read (FID 6): the same
+-- refusals, else 0."
 
 unfoldable pub canRead : List Counter → ℕ → Bool
 canRead cs i = isCounter i && isMapped cs i
 
 unfoldable pub readReply : List Counter → (i : ℕ) → Plain
-readReply cs i = if not (canRead cs i) then fails invalidParam else gives ((counterAt cs i) .value) cs
+readReply cs i =
+    if not (canRead cs i) then fails invalidParam
+    else gives ((counterAt cs i) .value) cs
 
 unfoldable pub readHighReply : List Counter → (i : ℕ) → Plain
 readHighReply cs i = if not (canRead cs i) then fails invalidParam else gives 0 cs
@@ -114,4 +135,6 @@ readHighReply cs i = if not (canRead cs i) then fails invalidParam else gives 0 
 -- ----- reported events: "The host reports codes 0 to 5"; a code over 5 is H6
 
 unfoldable pub eventReply : View → (code : ℕ) → Reply
-eventReply v e = if not (leb e lastReported) then refused notReportable else plain v (gives 0 (map (counted e) (v .own)))
+eventReply v e =
+    if not (leb e lastReported) then refused notReportable
+    else plain v (gives 0 (map (counted e) (v .own)))

@@ -1,4 +1,5 @@
--- "Edges worked through": the twelve that are proved, as one table. `EdgesHold` of `Promises` is the statement.
+-- "Edges worked through": the twelve that are proved, as one table. `EdgesHold` of `Promises` is
+-- the statement.
 use mathlib.Core.List.{List, [], _∷_, map}
 use Prim.Native.Nat.{ℕ, _-_, _^_}
 use lib.IntN.{ℤ}
@@ -15,7 +16,7 @@ use Rattle.rules.specs.Tables.{tablesWellFormed, wellFormed}
 use Rattle.rules.specs.Replies.{view, Reply, refused, failed, did, moves, plain, counted}
 use Rattle.rules.specs.Replies.{countAt, tellOne, tell, commit}
 use Rattle.rules.specs.Masks.{selected, selectionFits, isReached, reached, sendTo}
-use Rattle.rules.specs.Fences.{sentCode, idValid, needsHypervisor, rangeValid}
+use Rattle.rules.specs.Fences.{sentCode, idValid, hypervisorsFit, rangeValid}
 use Rattle.rules.specs.Fences.{interruptReply, fenceReply}
 use Rattle.rules.specs.Harts.{doneOf, suspendOf, startReply, suspendReply, goesOn}
 use Rattle.rules.specs.Harts.{doneReply}
@@ -32,7 +33,8 @@ use Rattle.rules.specs.declared.platform.HartSet.{HartSet}
 use Rattle.rules.specs.declared.platform.Platform.{Platform}
 use Rattle.rules.specs.declared.actions.Action.{Action}
 
--- ----- a platform for each set of enabled harts, with boot hart 0 and the transcript program's range and widths
+-- ----- a platform for each set of enabled harts, with boot hart 0 and the transcript program's
+-- range and widths
 
 abbrev pub platformOf : HartSet → Platform
 platformOf s = record {
@@ -40,7 +42,8 @@ platformOf s = record {
   hypervisor = record { low = 0; high = 0 };
   boot = 0;
   used = 1;
-  ranges = record { base = 0x80000000; length = 0x08000000 } ∷ replicate 7 (record { base = 0; length = 0 });
+  ranges = record { base = 0x80000000; length = 0x08000000 }
+      ∷ replicate 7 (record { base = 0; length = 0 });
   asid = 16;
   vmid = 14;
   implementation = 0;
@@ -80,7 +83,8 @@ pub record Edge : Type 0 where
 
 -- calls of hart 0
 abbrev calls : (eid fid a0 a1 a2 a3 a4 : ℕ) → Operation
-calls e f a b c d x = call 640 0 (record { a0 = a; a1 = b; a2 = c; a3 = d; a4 = x; a5 = 0; a6 = f; a7 = e })
+calls e f a b c d x = call 640 0
+    (record { a0 = a; a1 = b; a2 = c; a3 = d; a4 = x; a5 = 0; a6 = f; a7 = e })
 
 abbrev interrupts : (mask base : ℕ) → Operation
 interrupts m base = calls IPI 0 m base 0 0 0
@@ -108,10 +112,13 @@ edges =
     ∷ edge four allUp (interrupts 0 (2 ^ 64 - 1)) (shows success 0 (0 ∷ 1 ∷ 2 ∷ 3 ∷ []))
     ∷ edge four allUp (interrupts 2 (2 ^ 64 - 2)) (shows invalidParam 0 [])
     -- P5 harts 0, 1, 4 enabled, base 3, mask 2: hart 4.
-    ∷ edge zeroOneFour (calls HSM 0 4 0x80000000 0 0 0 ∷ []) (interrupts 2 3) (shows success 0 (4 ∷ []))
+    ∷ edge zeroOneFour (calls HSM 0 4 0x80000000 0 0 0 ∷ []) (interrupts 2 3)
+    (shows success 0 (4 ∷ []))
     -- P6 harts 0 and 127 enabled, base 126, mask 2: hart 127; mask 4 is -3.
-    ∷ edge zeroLast (calls HSM 0 127 0x80000000 0 0 0 ∷ []) (interrupts 2 126) (shows success 0 (127 ∷ []))
-    ∷ edge zeroLast (calls HSM 0 127 0x80000000 0 0 0 ∷ []) (interrupts 4 126) (shows invalidParam 0 [])
+    ∷ edge zeroLast (calls HSM 0 127 0x80000000 0 0 0 ∷ []) (interrupts 2 126)
+    (shows success 0 (127 ∷ []))
+    ∷ edge zeroLast (calls HSM 0 127 0x80000000 0 0 0 ∷ []) (interrupts 4 126)
+    (shows invalidParam 0 [])
     -- P7 suspend type 1: -3. P8 hart 0 starts itself: -6.
     ∷ edge four [] (calls HSM 3 1 0 0 0 0) (shows invalidParam 0 [])
     ∷ edge four [] (calls HSM 0 0 0x80000000 0 0 0) (shows alreadyAvailable 0 [])
@@ -122,14 +129,21 @@ edges =
     ∷ edge four [] (calls PMU 2 0 1 0 983046 0) (shows success 0 [])
     ∷ edge four [] (calls PMU 2 0 1 0 983062 0) (shows notSupported 0 [])
     -- P11 counter at 2^64 - 1, three events: 2.
-    ∷ edge four (calls PMU 2 0 1 0 0xF0000 0 ∷ calls PMU 3 0 1 1 (2 ^ 64 - 1) 0 ∷ event 0 0 ∷ event 0 0 ∷ event 0 0 ∷ [])
+    ∷ edge four
+    (calls PMU 2 0 1 0 0xF0000 0 ∷ calls PMU 3 0 1 1 (2 ^ 64 - 1) 0 ∷ event 0 0 ∷ event 0 0
+    ∷ event 0 0 ∷ [])
     (calls PMU 5 0 0 0 0 0) (shows success 2 [])
     -- P12 hart 0 interrupts 0 and 1, both STARTED: one sent event.
-    ∷ edge four (calls HSM 0 1 0x80000000 0 0 0 ∷ completion 640 1 ∷ calls PMU 2 0 1 4 983046 0 ∷ interrupts 3 0 ∷ [])
+    ∷ edge four
+    (calls HSM 0 1 0x80000000 0 0 0 ∷ completion 640 1 ∷ calls PMU 2 0 1 4 983046 0 ∷ interrupts 3 0
+    ∷ [])
     (calls PMU 5 0 0 0 0 0) (shows success 1 [])
     ∷ []
 
 -- what the rules show for each edge, all definitions opened
 unfoldable pub computed : List Edge → List Shown
-unfolding if_then_else_ bit every those numbers first keep all any has enabled hypervisor usedRanges liesIn validAddress rangeAccepted platformAccepted hartAt ownAt counterAt fresh isIdle isBlank hartWellFormed counterWellFormed shaped hartRowWellFormed tablesWellFormed wellFormed view moves plain counted countAt tellOne tell commit selected selectionFits isReached reached sendTo sentCode idValid needsHypervisor rangeValid interruptReply fenceReply doneOf suspendOf startReply suspendReply goesOn doneReply counterSet isCounter each isMapped isRunning notRunning isEvent chosen configured configureChosen configureReply begun counterStartReply canRead readReply eventReply interruptRequest fenceRequest hartRequest counterRequest request lifeReply plainReply requestReply enabledReply checkedReply reply after shownBy
-computed es = map (λ (e : Edge). shownBy (reply (platformOf (e .harts)) (afterAll (platformOf (e .harts)) (fresh (platformOf (e .harts))) (e .history)) (e .last))) es
+unfolding if_then_else_ bit every those numbers first keep all any has enabled hypervisor usedRanges liesIn validAddress rangeAccepted platformAccepted hartAt ownAt counterAt fresh isIdle isBlank hartWellFormed counterWellFormed shaped hartRowWellFormed tablesWellFormed wellFormed view moves plain counted countAt tellOne tell commit selected selectionFits isReached reached sendTo sentCode idValid hypervisorsFit rangeValid interruptReply fenceReply doneOf suspendOf startReply suspendReply goesOn doneReply counterSet isCounter each isMapped isRunning notRunning isEvent chosen configured configureChosen configureReply begun counterStartReply canRead readReply eventReply interruptRequest fenceRequest hartRequest counterRequest request lifeReply plainReply requestReply enabledReply checkedReply reply after shownBy
+computed es = map
+    (λ (e : Edge). shownBy
+    (reply (platformOf (e .harts))
+    (afterAll (platformOf (e .harts)) (fresh (platformOf (e .harts))) (e .history)) (e .last))) es

@@ -1,4 +1,5 @@
--- Firmware events by the standard's names, and how often an event is counted. For the promises on counters alone.
+-- Firmware events by the standard's names, and how often an event is counted. For the promises on
+-- counters alone.
 use mathlib.Core.List.{List, [], _∷_}
 use Prim.Native.Nat.{ℕ, zero, suc}
 use lib.Dec.{eqb}

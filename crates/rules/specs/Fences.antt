@@ -1,5 +1,5 @@
--- Interrupts and remote fences.
--- "Fences FID 0 to 6: FENCE.I, SFENCE.VMA, SFENCE.VMA ASID, HFENCE.GVMA VMID, HFENCE.GVMA, HFENCE.VVMA ASID, HFENCE.VVMA."
+-- Interrupts and remote fences. "Fences FID 0 to 6: FENCE.I, SFENCE.VMA, SFENCE.VMA ASID,
+-- HFENCE.GVMA VMID, HFENCE.GVMA, HFENCE.VVMA ASID, HFENCE.VVMA."
 use mathlib.Core.Bool.{Bool, true, not, _&&_, _||_}
 use mathlib.Core.List.{List, [], _∷_}
 use Prim.Native.Nat.{ℕ, _+_, _^_}
@@ -16,7 +16,8 @@ use Rattle.rules.specs.declared.platform.Platform.{Platform}
 
 -- the seven fences by name, and the function of each
 pub data Fence : Type 0 where
-  FENCE-I SFENCE-VMA SFENCE-VMA-ASID HFENCE-GVMA-VMID HFENCE-GVMA HFENCE-VVMA-ASID HFENCE-VVMA : Fence
+  FENCE-I SFENCE-VMA SFENCE-VMA-ASID : Fence
+  HFENCE-GVMA-VMID HFENCE-GVMA HFENCE-VVMA-ASID HFENCE-VVMA : Fence
 
 abbrev pub functionOf : Fence → ℕ
 functionOf FENCE-I = 0
@@ -42,11 +43,12 @@ idValid p f i =
     else true
 
 -- "hypervisor extension on every selected hart for FID 3 to 6"
-unfoldable pub needsHypervisor : (fid : ℕ) → Bool
-needsHypervisor f = leb 3 f
+unfoldable pub hypervisorsFit : Platform → (fid : ℕ) → (selected : List ℕ) → Bool
+hypervisorsFit p f hs = if leb 3 f then all (hypervisor p) hs else true
 
--- "The range is the whole space if start and size are both 0, or size is 2^64 - 1 with any start. Otherwise start + size
--- may be at most 2^64. Size 0 with another start is accepted as it stands (house)."
+-- "The range is the whole space if start and size are both 0, or size is 2^64 - 1 with any start.
+-- Otherwise start + size may be at most 2^64. Size 0 with another start is accepted as it stands
+-- (house)."
 unfoldable pub rangeValid : (w start size : ℕ) → Bool
 rangeValid w s n = (eqb s 0 && eqb n 0) || (eqb n (ones w) || leb (s + n) (2 ^ w))
 
@@ -55,12 +57,13 @@ interruptReply p v m base =
     if not (selectionFits p m base) then fails invalidParam
     else sendTo interruptKind 0 0 0 interruptSent (reached p (v .harts) m base)
 
--- "Order: harts (-3), ASID or VMID below 2^width (-3), hypervisor extension on every selected hart for FID 3 to 6 (-2),
--- range (-5)." Words that a fence has not are 0; "otherwise the arguments unaltered".
+-- "Order: harts (-3), ASID or VMID below 2^width (-3), hypervisor extension on every selected hart
+-- for FID 3 to 6 (-2), range (-5)." Words that a fence has not are 0; "otherwise the arguments
+-- unaltered".
 unfoldable pub fenceReply : Platform → View → (fid mask base start size id : ℕ) → Plain
 fenceReply p v f m base s n i =
     if not (selectionFits p m base) then fails invalidParam
     else if not (idValid p f i) then fails invalidParam
-    else if needsHypervisor f && not (all (hypervisor p) (selected p m base)) then fails notSupported
+    else if not (hypervisorsFit p f (selected p m base)) then fails notSupported
     else if not (rangeValid (width p) s n) then fails invalidAddress
     else sendTo (fenceKind + f) s n i (sentCode f) (reached p (v .harts) m base)

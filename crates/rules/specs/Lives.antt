@@ -1,5 +1,5 @@
--- The row of a hart, as demand 3 words it. No table of states stands here: a row is written down from its lives, and each
--- event carries the status that the place right after it names.
+-- The row of a hart, as demand 3 words it. No table of states stands here: a row is written down
+-- from its lives, and each event carries the status that the place right after it names.
 use mathlib.Core.Path.{_≡_}
 use mathlib.Core.List.{List, [], _∷_, _++_, map}
 use Prim.Native.Nat.{ℕ}
@@ -23,7 +23,12 @@ pub data Round : Type 0 where
   sleep : Round
 
 abbrev pub round : Round → List Mark
-round sleep = suspend named SUSPEND-PENDING ∷ done named SUSPENDED ∷ wake named RESUME-PENDING ∷ done named STARTED ∷ []
+round sleep =
+    suspend named SUSPEND-PENDING
+    ∷ done named SUSPENDED
+    ∷ wake named RESUME-PENDING
+    ∷ done named STARTED
+    ∷ []
 
 -- "any number of rounds", and then what follows
 abbrev pub rounds : List Round → List Mark → List Mark
@@ -35,7 +40,10 @@ abbrev pub Life : Type 0
 Life = List Round
 
 abbrev pub life : Life → List Mark → List Mark
-life rs k = start named START-PENDING ∷ done named STARTED ∷ rounds rs (stop named STOP-PENDING ∷ done named STOPPED ∷ k)
+life rs k =
+    start named START-PENDING
+    ∷ done named STARTED
+    ∷ rounds rs (stop named STOP-PENDING ∷ done named STOPPED ∷ k)
 
 -- "a row of lives"
 abbrev pub row : List Life → List Mark
@@ -50,7 +58,8 @@ abbrev pub last : ℕ → List Mark → ℕ
 last s [] = s
 last s (m ∷ ms) = last (m .status) ms
 
--- a reading of es as the start of a row of lives: the row of some lives falls into a front, whose events are es, and a back
+-- a reading of es as the start of a row of lives: the row of some lives falls into a front, whose
+-- events are es, and a back
 pub record Reading (es : List Event) : Type 0 where
   pub lives : List Life
   pub front : List Mark

@@ -1,5 +1,6 @@
 -- The whole machine: what each operation is answered on which tables, and the tables after it.
---   Operation         a call, a completion, a wake or a reported event; room is the length of the lent action memory
+--   Operation         a call, a completion, a wake or a reported event; room is how many words of
+--                     action memory were lent with it
 --   reply p t op      the answer's content, host refusals first
 --   after, afterAll   the tables after an operation, and after a history of them
 use mathlib.Core.Bool.{Bool, false, not}
@@ -84,7 +85,9 @@ isShort (event h e) = false
 
 -- H3, H5 and H6, and what else there is to answer
 unfoldable pub enabledReply : Platform → View → Operation → Reply
-enabledReply p v (call room h r) = if not (eqb (stateOf (v .harts) h) STARTED) then refused notStarted else requestReply p v h (request r)
+enabledReply p v (call room h r) =
+    if not (eqb (stateOf (v .harts) h) STARTED) then refused notStarted
+    else requestReply p v h (request r)
 enabledReply p v (completion room h) = doneReply v h
 enabledReply p v (waking room h) = wakeReply v h
 enabledReply p v (event h e) = eventReply v e

@@ -13,10 +13,12 @@ use Rattle.rules.specs.declared.platform.Platform.{Platform}
 use Rattle.rules.specs.declared.records.Hart.{Hart}
 use Rattle.rules.specs.declared.actions.Action.{Action}
 
--- "With base 2^64 - 1 the mask is ignored and all enabled harts are selected. Otherwise bit i selects hart base + i,
--- summed without wrapping .. Mask 0 selects nobody and succeeds."
+-- "With base 2^64 - 1 the mask is ignored and all enabled harts are selected. Otherwise bit i
+-- selects hart base + i, summed without wrapping .. Mask 0 selects nobody and succeeds."
 unfoldable pub selected : Platform → (mask base : ℕ) → List ℕ
-selected p m base = if eqb base (ones (width p)) then those harts (enabled p) else numbers (width p) base m
+selected p m base =
+    if eqb base (ones (width p)) then those harts (enabled p)
+    else numbers (width p) base m
 
 -- "any selected number not enabled gives -3"
 unfoldable pub selectionFits : Platform → (mask base : ℕ) → Bool

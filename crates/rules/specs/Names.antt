@@ -1,4 +1,5 @@
--- Every number of document 01 under its name there. The code's constants are those of src/numbers.rt.
+-- Every number of document 01 under its name there. The code's constants are those of
+-- src/numbers.rt.
 use Prim.Native.Nat.{ℕ}
 use lib.IntN.{ℤ, pos, negsuc}
 
@@ -98,7 +99,8 @@ unknownKind = 7
 abbrev pub blockCheck : ℕ
 blockCheck = 8
 
--- ----- "0 STARTED, 1 STOPPED, 2 START_PENDING, 3 STOP_PENDING, 4 SUSPENDED, 5 SUSPEND_PENDING, 6 RESUME_PENDING"
+-- ----- hart states: "0 STARTED, 1 STOPPED, 2 START_PENDING, 3 STOP_PENDING, 4 SUSPENDED,
+-- 5 SUSPEND_PENDING, 6 RESUME_PENDING"
 
 abbrev pub STARTED : ℕ
 STARTED = 0
@@ -139,7 +141,8 @@ interruptKind = 2
 abbrev pub fenceKind : ℕ
 fenceKind = 3
 
--- ----- firmware events: "Events 0xF0000 to 0xF0015 only", so codes 0 to 21; "The host reports codes 0 to 5."
+-- ----- firmware events: "Events 0xF0000 to 0xF0015 only", so codes 0 to 21; "The host reports
+-- codes 0 to 5."
 
 abbrev pub firstEvent : ℕ
 firstEvent = 0xF0000

@@ -4,7 +4,7 @@
 --   width p               how many bits a register has
 --   usedRanges p          its memory ranges
 --   validAddress p a      an address that a hart may be sent to
---   platformAccepted p    no ground of H1 holds against it; `PlatformAccepted` says the same as a statement
+--   platformAccepted p    no ground of H1 holds against it; `PlatformAccepted` says the same
 use mathlib.Core.Path.{_≡_}
 use mathlib.Core.Bool.{Bool, true, false, not, _&&_, _||_}
 use mathlib.Core.List.{List, List·Memᴰ}
@@ -69,4 +69,5 @@ pub record PlatformAccepted (p : Platform) : Type 0 where
   pub asid : p .asid ≤ 16
   pub vmid : p .vmid ≤ 14
   -- a used range is not empty and ends at 2^64 at most
-  pub used : (r : Range) → List·Memᴰ r (usedRanges p) → (0 < r .length) × (r .base + r .length ≤ 2 ^ width p)
+  pub used : (r : Range) → List·Memᴰ r (usedRanges p)
+      → (0 < r .length) × (r .base + r .length ≤ 2 ^ width p)

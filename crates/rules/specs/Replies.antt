@@ -27,8 +27,8 @@ pub record View : Type 0 where
 unfoldable pub view : Tables → ℕ → View
 view t h = record { harts = t .harts; own = ownAt t h }
 
--- the value for a1, whether the caller is parked, the actions, the hart records and the caller's counters after,
--- and the event that was sent: its code, and the harts that were reached
+-- the value for a1, whether the caller is parked, the actions, the hart records and the caller's
+-- counters after, and the event that was sent: its code, and the harts that were reached
 pub record Done : Type 0 where
   pub value : ℕ
   pub parked : Bool
@@ -51,9 +51,19 @@ accepted (did d) = true
 
 -- the hart records after, and nothing else but a mark and actions
 unfoldable pub moves : View → (parked : Bool) → List Action → List Hart → Reply
-moves v k acts hs = did (record { value = 0; parked = k; actions = acts; harts = hs; own = v .own; code = 0; told = [] })
+moves v k acts hs = did
+    (record {
+      value = 0;
+      parked = k;
+      actions = acts;
+      harts = hs;
+      own = v .own;
+      code = 0;
+      told = [];
+    })
 
--- ----- calls that alter no hart record: an error, a value and the caller's counters after, or actions
+-- ----- calls that alter no hart record: an error, a value and the caller's counters after, or
+-- actions
 
 pub data Plain : Type 0 where
   fails : (error : ℤ) → Plain
@@ -62,22 +72,46 @@ pub data Plain : Type 0 where
 
 unfoldable pub plain : View → Plain → Reply
 plain v (fails e) = failed e
-plain v (gives n cs) = did (record { value = n; parked = false; actions = []; harts = v .harts; own = cs; code = 0; told = [] })
-plain v (sends acts c ks) = did (record { value = 0; parked = false; actions = acts; harts = v .harts; own = v .own; code = c; told = ks })
+plain v (gives n cs) = did
+    (record {
+      value = n;
+      parked = false;
+      actions = [];
+      harts = v .harts;
+      own = cs;
+      code = 0;
+      told = [];
+    })
+plain v (sends acts c ks) = did
+    (record {
+      value = 0;
+      parked = false;
+      actions = acts;
+      harts = v .harts;
+      own = v .own;
+      code = c;
+      told = ks;
+    })
 
--- ----- events: "An event adds one, going from 2^64 - 1 to 0, to every running counter of that hart mapped to its code."
+-- ----- events: "An event adds one, going from 2^64 - 1 to 0, to every running counter of that hart
+-- mapped to its code."
 
 unfoldable pub counted : (code : ℕ) → Counter → Counter
 counted e c =
     if c .running && (c .mapped && eqb (c .code) e)
-    then record { mapped = c .mapped; code = c .code; running = c .running; value = (c .value + 1) % 2 ^ 64 }
+    then record {
+      mapped = c .mapped;
+      code = c .code;
+      running = c .running;
+      value = (c .value + 1) % 2 ^ 64;
+    }
     else c
 
 unfoldable pub countAt : (h code : ℕ) → List (List Counter) → List (List Counter)
 countAt h e t = set t h (map (counted e) (getD t h []))
 
--- "For each reached hart other than the caller, the caller has one sent event and the target one received event.
--- Received is sent + 1."
+-- "For each reached hart other than the caller, the caller has one sent event and the target one
+-- received event. Received is sent + 1."
 unfoldable pub tellOne : (h code k : ℕ) → List (List Counter) → List (List Counter)
 tellOne h e k t = if eqb k h then t else countAt k (e + 1) (countAt h e t)
 
@@ -85,12 +119,16 @@ unfoldable pub tell : (h code : ℕ) → (told : List ℕ) → List (List Counte
 tell h e [] t = t
 tell h e (k ∷ ks) t = tell h e ks (tellOne h e k t)
 
--- ----- the tables after: "Every refusal, error pairs included, leaves the tables and all action memory unaltered"
+-- ----- the tables after: "Every refusal, error pairs included, leaves the tables and all action
+-- memory unaltered"
 
 unfoldable pub commit : Tables → (h : ℕ) → Reply → Tables
 commit t h (refused k) = t
 commit t h (failed e) = t
-commit t h (did d) = record { harts = d .harts; counters = tell h (d .code) (d .told) (set (t .counters) h (d .own)) }
+commit t h (did d) = record {
+  harts = d .harts;
+  counters = tell h (d .code) (d .told) (set (t .counters) h (d .own));
+}
 
 -- ----- what the host gets
 
@@ -116,7 +154,8 @@ unfoldable pub wordsOf : List Action → List ℕ
 wordsOf [] = []
 wordsOf (a ∷ as′) = a .target ∷ a .kind ∷ a .start ∷ a .size ∷ a .id ∷ wordsOf as′
 
--- "The host gets back the filled front part of its own action memory; words after it keep their contents."
+-- "The host gets back the filled front part of its own action memory; words after it keep their
+-- contents."
 unfoldable pub laid : List ℕ → List ℕ → List ℕ
 laid words memory = words ++ drop (length words) memory
 

@@ -15,7 +15,8 @@ pub data LifeRequest : Type 0 where
 
 -- all others
 pub data PlainRequest : Type 0 where
-  baseVersion baseImplementation baseImplementationVersion baseVendor baseArchitecture baseMachine : PlainRequest
+  baseVersion baseImplementation baseImplementationVersion baseVendor baseArchitecture
+      baseMachine : PlainRequest
   baseProbe : (eid : ℕ) → PlainRequest
   interrupt : (mask base : ℕ) → PlainRequest
   fence : (fid mask base start size id : ℕ) → PlainRequest
@@ -51,7 +52,8 @@ interruptRequest r = if eqb (r .a6) 0 then interrupt (r .a0) (r .a1) else unknow
 unfoldable pub fenceRequest : Registers → PlainRequest
 fenceRequest r =
     if eqb (r .a6) 0 then fence 0 (r .a0) (r .a1) 0 0 0
-    else if eqb (r .a6) 2 || (eqb (r .a6) 3 || eqb (r .a6) 5) then fence (r .a6) (r .a0) (r .a1) (r .a2) (r .a3) (r .a4)
+    else if eqb (r .a6) 2 || (eqb (r .a6) 3 || eqb (r .a6) 5) then fence (r .a6) (r .a0) (r .a1)
+    (r .a2) (r .a3) (r .a4)
     else if leb (r .a6) 6 then fence (r .a6) (r .a0) (r .a1) (r .a2) (r .a3) 0
     else unknown
 

@@ -65,12 +65,15 @@ rowNow p ops h = prior p h ++ rowOf p h (fresh p) ops
 unfoldable pub passes : Platform → Request → Bool
 passes p (life (hartStart k a o)) = validAddress p a
 passes p (life hartStop) = true
-passes p (life (hartSuspend y a o)) = eqb y retentiveType || (eqb y nonRetentiveType && validAddress p a)
+passes p (life (hartSuspend y a o)) =
+    eqb y retentiveType || (eqb y nonRetentiveType && validAddress p a)
 passes p (other q) = true
 
--- "its action memory is long enough and, for a call, its caller is running and its type and address pass"
+-- "its action memory is long enough and, for a call, its caller is running and its type and address
+-- pass"
 unfoldable pub ready : Platform → Tables → Operation → Bool
-ready p t (call room h r) = leb actionMemory room && (eqb (stateOf (t .harts) h) STARTED && passes p (request r))
+ready p t (call room h r) = leb actionMemory room
+    && (eqb (stateOf (t .harts) h) STARTED && passes p (request r))
 ready p t (completion room h) = leb actionMemory room
 ready p t (waking room h) = leb actionMemory room
 ready p t (event h e) = true

@@ -1,5 +1,6 @@
--- Sets of numbers: the bits of a mask, the numbers that it selects, and lists of numbers in ascending order.
--- The width w of a mask is a parameter. Nothing here wraps: sums are over all natural numbers.
+-- Sets of numbers: the bits of a mask, the numbers that it selects, and lists of numbers in
+-- ascending order. The width w of a mask is a parameter. Nothing here wraps: sums are over all
+-- natural numbers.
 --   bit m i            bit i of m is set
 --   ones w             2^w - 1: all ones of w bits
 --   every n f          f holds at each number below n
@@ -7,7 +8,8 @@
 --   numbers w base m   the numbers base + i for each set bit i of a mask of w bits, ascending
 --   names w base m k   whether k is one of these numbers, asked of k alone
 --   Ascending l        each number of l is greater than the one before it
---   keep f l, all f l, any f l, first l   of a list: those where f holds; whether all or any do; the first, if any
+--   keep f l, all f l, any f l, first l   of a list: those where f holds; whether all or any do;
+-- the first, if any
 use mathlib.Core.Bool.{Bool, true, false, _&&_, _||_}
 use mathlib.Core.List.{List, [], _∷_, _++_, map}
 use mathlib.Core.Option.{Option, none, some}
@@ -29,7 +31,8 @@ unfoldable pub those : ℕ → (ℕ → Bool) → List ℕ
 those zero f = []
 those (suc n) f = those n f ++ (if f n then n ∷ [] else [])
 
--- "bit i selects hart base + i, summed without wrapping"; "bit i is counter base + i without wrapping"
+-- "bit i selects hart base + i, summed without wrapping"; "bit i is counter base + i without
+-- wrapping"
 unfoldable pub numbers : (w base m : ℕ) → List ℕ
 numbers w base m = map (λ (i : ℕ). base + i) (those w (bit m))
 

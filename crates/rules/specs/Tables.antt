@@ -1,11 +1,13 @@
--- The tables: a record for each hart and eight counters for each hart, fresh ones, and when they are well formed.
+-- The tables: a record for each hart and eight counters for each hart, fresh ones, and when they
+-- are well formed.
 --   Tables                 the hart records, and the counters hart by hart
 --   hartAt, ownAt, counterAt   hart h's record; its eight counters; counter i of eight
 --   stateOf                a hart's state
 --   inState x s            the record x in another state, its sleep note kept
 --   idle s                 the record in state s with a sleep note that says nothing
 --   fresh p                the tables at power-up
---   tablesWellFormed p t   no ground of H1 holds against them; `WellFormed` says the same as a statement
+--   tablesWellFormed p t   no ground of H1 holds against them; `WellFormed` says the same as a
+-- statement
 use mathlib.Core.Path.{_≡_}
 use mathlib.Core.Bool.{Bool, true, false, not, _&&_}
 use mathlib.Core.List.{List, []}
@@ -33,7 +35,8 @@ abbrev pub blank : Counter
 blank = record { mapped = false; code = 0; running = false; value = 0 }
 
 abbrev pub inState : Hart → ℕ → Hart
-inState x s = record { state = s; retentive = x .retentive; address = x .address; opaque = x .opaque }
+inState x s = record
+    { state = s; retentive = x .retentive; address = x .address; opaque = x .opaque }
 
 unfoldable pub hartAt : List Hart → ℕ → Hart
 hartAt hs h = getD hs h (idle STOPPED)
@@ -47,15 +50,17 @@ ownAt t h = getD (t .counters) h []
 unfoldable pub counterAt : List Counter → ℕ → Counter
 counterAt cs i = getD cs i blank
 
--- "Fresh: boot hart STARTED, every other STOPPED, sleep notes retentive, 0, 0, all counters unmapped, stopped, zero."
+-- "Fresh: boot hart STARTED, every other STOPPED, sleep notes retentive, 0, 0, all counters
+-- unmapped, stopped, zero."
 unfoldable pub fresh : Platform → Tables
 fresh p = record {
   harts = set (replicate harts (idle STOPPED)) (p .boot) (idle STARTED);
   counters = replicate harts (replicate counters blank);
 }
 
--- ----- "Well formed: the platform passes; each state is 0 to 6; a hart not enabled is as fresh, STOPPED with unmapped,
--- stopped, zero counters; a mapped code is 0 to 21; a running counter is mapped."
+-- ----- "Well formed: the platform passes; each state is 0 to 6; a hart not enabled is as fresh,
+-- STOPPED with unmapped, stopped, zero counters; a mapped code is 0 to 21; a running counter is
+-- mapped."
 
 -- as fresh, the sleep note included
 unfoldable pub isIdle : Hart → Bool
@@ -76,7 +81,8 @@ counterWellFormed on c =
 
 -- a record for each of 128 harts, and eight counters for each
 unfoldable pub shaped : Tables → Bool
-shaped t = eqb (length (t .harts)) harts && (eqb (length (t .counters)) harts && every harts (λ h. eqb (length (ownAt t h)) counters))
+shaped t = eqb (length (t .harts)) harts
+    && (eqb (length (t .counters)) harts && every harts (λ h. eqb (length (ownAt t h)) counters))
 
 unfoldable pub hartRowWellFormed : Platform → Tables → ℕ → Bool
 hartRowWellFormed p t h =

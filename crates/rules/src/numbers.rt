@@ -95,7 +95,8 @@ pub const INTERRUPT: u64 = 2;
 
 pub const FENCE: u64 = 3;
 
-// Firmware events: "Events 0xF0000 to 0xF0015 only", so codes 0 to 21. "The host reports codes 0 to 5."
+// Firmware events: "Events 0xF0000 to 0xF0015 only", so codes 0 to 21. "The host reports codes 0 to
+// 5."
 pub const FIRST_EVENT: u64 = 0xF0000;
 
 pub const LAST_EVENT: u64 = 0xF0015;

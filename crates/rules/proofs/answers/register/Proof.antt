@@ -35,7 +35,8 @@ low (pos n) f t =
     let u : n < 0 = ltb-true n 0 (subst (λ (z : ℤ). ltZ z (pos 0) ≡ true) (toZ-ofZ w64 (pos n) f) t) in
     absurd (omega arith)
 low (negsuc n) f t =
-    let e : negsuc 0 -ℤ kept (negsuc n) ≡ pos n = ap (λ (z : ℤ). negsuc 0 -ℤ z) (toZ-ofZ w64 (negsuc n) f) ∙ complement n in
+    let e : negsuc 0 -ℤ kept (negsuc n) ≡ pos n = ap (λ (z : ℤ). negsuc 0 -ℤ z) (toZ-ofZ w64 (negsuc n) f)
+    ∙ complement n in
     let h : n < 2 ^ 63 = f .sfits in
     let d : kept (negsuc 0 -ℤ kept (negsuc n)) ≡ pos n = ap kept e ∙ toZ-pos w64 n h in
     record {

@@ -25,18 +25,38 @@ in-state-requires-3 c κs = search needs
 
 returns-3 : tie.Need-returns-3
 unfolding doneOf if_then_else_
-returns-3 c = rw (c .in-state3 .ensures, ne-eqb _ _ (c .before .before .before .if1 .left), ne-eqb _ _ (c .before .before .if2 .left), eq-eqb _ _ (c .before .if3 .taken))
+returns-3 c = rw (
+  c .in-state3 .ensures,
+  ne-eqb _ _ (c .before .before .before .if1 .left),
+  ne-eqb _ _
+      (c .before .before .if2 .left),
+  eq-eqb _ _ (c .before .if3 .taken),
+)
 
 in-state-requires-4 : tie.Need-in-state-requires-4
 in-state-requires-4 c κs = search needs
 
 returns-4 : tie.Need-returns-4
 unfolding doneOf if_then_else_
-returns-4 c = rw (c .in-state4 .ensures, ne-eqb _ _ (c .before .before .before .before .if1 .left), ne-eqb _ _ (c .before .before .before .if2 .left), ne-eqb _ _ (c .before .before .if3 .left), eq-eqb _ _ (c .before .if4 .taken))
+returns-4 c = rw (
+  c .in-state4 .ensures,
+  ne-eqb _ _ (c .before .before .before .before .if1 .left),
+  ne-eqb _ _
+      (c .before .before .before .if2 .left),
+  ne-eqb _ _ (c .before .before .if3 .left),
+  eq-eqb _ _
+      (c .before .if4 .taken),
+)
 
 returns-5 : tie.Need-returns-5
 unfolding doneOf if_then_else_
-returns-5 c = rw (ne-eqb _ _ (c .before .before .before .if1 .left), ne-eqb _ _ (c .before .before .if2 .left), ne-eqb _ _ (c .before .if3 .left), ne-eqb _ _ (c .if4 .left))
+returns-5 c = rw (
+  ne-eqb _ _ (c .before .before .before .if1 .left),
+  ne-eqb _ _ (c .before .before .if2 .left),
+  ne-eqb _ _
+      (c .before .if3 .left),
+  ne-eqb _ _ (c .if4 .left),
+)
 
 pub done-spec : {M : Type 1} → statement M
 done-spec =
