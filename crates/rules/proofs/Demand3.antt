@@ -8,29 +8,26 @@ use borrow.Author.Tests.{eqb-true, eq-eqb, le-ltb, leb-true}
 use Rattle.rules.specs.Choice.{if_then_else_}
 use Rattle.rules.specs.Names.{STARTED, STOPPED, HSM, actionMemory, harts, success}
 use Rattle.rules.specs.Platform.{enabled, platformAccepted}
-use Rattle.rules.specs.Tables.{Tables, stateOf, fresh, wellFormed, TablesWellFormed}
+use Rattle.rules.specs.Tables.{Tables, stateOf, fresh, TablesWellFormed}
 use Rattle.rules.specs.Replies.{view, accepted, plain, answerOf}
 use Rattle.rules.specs.Harts.{statusReply}
-use Rattle.rules.specs.Requests.{hartStatus, other, hartRequest, request}
-use Rattle.rules.specs.Machine.{plainReply, requestReply, Operation, call, enabledReply, checkedReply, reply}
+use Rattle.rules.specs.Requests.{hartStatus, other, request}
+use Rattle.rules.specs.Machine.{plainReply, requestReply, Operation, call, checkedReply, reply}
 use Rattle.rules.specs.Lives.{Event, last, Reading, placed}
 use Rattle.rules.specs.Rows.{_does_, eventOf, adds, prior, tablesNow, rowNow, ready}
 use Rattle.rules.specs.Promises.{LivesHold}
 use Rattle.rules.specs.declared.platform.Platform.{Platform}
 use Rattle.rules.specs.declared.answers.Registers.{Registers}
 use Rattle.rules.specs.declared.answers.Answer.the-variants.{Pair}
-use Rattle.rules.proofs.Logic.{if-false, false-if, and-l, and-r, and-of, not-of}
+use Rattle.rules.proofs.Logic.{false-if, and-l, and-r}
 use Rattle.rules.proofs.WellFormed.{platform-agrees, tables-agree}
 use Rattle.rules.proofs.Readings.{run-read, read-run, run-one, run-last, run-next}
 use Rattle.rules.proofs.Kept.{all-kept, fresh-fine}
 use Rattle.rules.proofs.Tracks.{Tracks, track, track-all, track-fresh}
+use Rattle.rules.proofs.HostWays.{reply-checked, checked-enabled, call-started}
+use Rattle.rules.proofs.RequestWays.{request-hsm, hart-2}
+use Rattle.rules.proofs.HartWays.{status-given}
 use Rattle.rules.proofs.Accepts.{is-accepted, checked-accepts, running-enabled}
-
--- on well-formed tables there is no H1
-pub reply-checked : (p : Platform) (t : Tables) (op : Operation) → platformAccepted p ≡ true → TablesWellFormed p t
-    → reply p t op ≡ checkedReply p t op
-unfolding reply wellFormed
-reply-checked p t op ok w = if-false _ _ (not-of (and-of ok (tables-agree p t .1 w)))
 
 module _ (p : Platform) (ok : platformAccepted p ≡ true) (ops : List Operation) where
   boot-on : enabled p (p .boot) ≡ true
@@ -65,31 +62,26 @@ module _ (p : Platform) (ok : platformAccepted p ≡ true) (ops : List Operation
       let T = tracked h in
       let g = run-next (T .run) (read-run fit .1) (fit .said ∙ ap (λ (l : List Event). l ++ (e ∷ [])) (sym (T .said)))
       in
-      ap accepted (reply-checked p (tablesNow p ops) op ok fine)
+      ap accepted (reply-checked p (tablesNow p ops) op ok (tables-agree p (tablesNow p ops) .1 fine))
       ∙ is-accepted (checked-accepts p (tablesNow p ops) fine h e on (T .place) (g .0) (T .stands) (g .1) op ev r)
 
 -- a ready status call, answered
-status-request : (q : Registers) → q .a7 ≡ HSM → q .a6 ≡ 2 → request q ≡ other (hartStatus (q .a0))
-unfolding request hartRequest if_then_else_
-status-request q a7 a6 = rw (a7, a6) refl
-
 status-checked : (p : Platform) (t : Tables) (room k : ℕ) (q : Registers) → TablesWellFormed p t
-    → request q ≡ other (hartStatus (q .a0))
-    → ready p t (call room k q) ≡ true
+    → request q ≡ other (hartStatus (q .a0)) → ready p t (call room k q) ≡ true
     → checkedReply p t (call room k q) ≡ plain (view t k) (statusReply p (view t k) (q .a0))
-unfolding ready checkedReply enabledReply requestReply plainReply view
+unfolding ready requestReply plainReply
 status-checked p t room k q w asked r =
     let m = and-r (leb actionMemory room) _ r in
-    let s : eqb (stateOf (t .harts) k) STARTED ≡ true = and-l (eqb (stateOf (t .harts) k) STARTED) _ m in
-    if-false _ _ (le-ltb room actionMemory (leb-true actionMemory room (and-l _ _ r)))
-    ∙ if-false _ _ (not-of (running-enabled p t w k (eqb-true _ _ s)))
-    ∙ if-false _ _ (not-of s)
+    let s : stateOf (t .harts) k ≡ STARTED = eqb-true _ _ (and-l (eqb (stateOf (t .harts) k) STARTED) _ m) in
+    checked-enabled p t (call room k q) (le-ltb room actionMemory (leb-true actionMemory room (and-l _ _ r)))
+    (running-enabled p t w k s)
+    ∙ call-started p t room k q s
     ∙ ap (requestReply p (view t k) k) asked
 
 status-shown : (p : Platform) (t : Tables) (h k : ℕ) → enabled p h ≡ true
     → answerOf (plain (view t k) (statusReply p (view t k) h)) ≡ Pair success (stateOf (t .harts) h) false 0
-unfolding statusReply plain answerOf view
-status-shown p t h k on = rw (if-false _ _ (not-of on)) refl
+unfolding plain answerOf view
+status-shown p t h k on = rw (status-given p (view t k) h on) refl
 
 status-call : (p : Platform) (t : Tables) (h room k : ℕ) (q : Registers) → platformAccepted p ≡ true
     → TablesWellFormed p t → enabled p h ≡ true
@@ -97,8 +89,8 @@ status-call : (p : Platform) (t : Tables) (h room k : ℕ) (q : Registers) → p
     → answerOf (reply p t (call room k q)) ≡ Pair success (stateOf (t .harts) h) false 0
 status-call p t h room k q ok w on a7 a6 a0 r =
     ap answerOf
-    (reply-checked p t (call room k q) ok w
-    ∙ status-checked p t room k q w (status-request q a7 a6) r
+    (reply-checked p t (call room k q) ok (tables-agree p t .1 w)
+    ∙ status-checked p t room k q w (request-hsm q a7 ∙ hart-2 q a6) r
     ∙ ap (λ (j : ℕ). plain (view t k) (statusReply p (view t k) j)) a0)
     ∙ status-shown p t h k on
 

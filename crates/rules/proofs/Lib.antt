@@ -8,10 +8,15 @@ pub mod Effects
 pub mod Lists
 pub mod Own
 pub mod Kept
+pub mod HartWays
+pub mod CounterWays
+pub mod RequestWays
+pub mod HostWays
 pub mod Tracks
 pub mod Accepts
 pub mod Demand3
 pub mod Masks
+pub mod ReachWays
 pub mod Refusals
 pub mod Counting
 pub mod Passed
