@@ -21,6 +21,7 @@ use crate::numbers::NOT_SUPPORTED;
 use crate::numbers::NOT_WELL_FORMED;
 use crate::numbers::SHORT_MEMORY;
 use crate::numbers::STATE_FORBIDS;
+use crate::numbers::SUCCESS;
 use crate::numbers::UNKNOWN_KIND;
 
 // a6 holds the function, a7 the extension.
@@ -69,6 +70,18 @@ impl Answer {
             value: 0,
             parked: false,
             actions: 0,
+        }
+    }
+
+    // What was done: error 0, the value for a1, whether the caller is parked, how many actions.
+    pub fn success(value: u64, parked: bool, actions: u64) -> Self
+        ensures { λ r. ⌜ r ≡ Answer.Pair success value parked actions ⌝ }
+    {
+        Answer::Pair {
+            error: SUCCESS,
+            value,
+            parked,
+            actions,
         }
     }
 
