@@ -1,8 +1,8 @@
 -- Ascending lists of numbers: the sets of `Sets` are ascending, and two ascending lists with the same members are
 -- equal.
 -- So a set that a loop makes hart by hart is the set that document 01 names bit by bit.
+use mathlib.Core.Bool.{_||_, not, Bool, true, _&&_}
 use mathlib.Core.Path.{_≡_, refl, sym, ap₂, subst}
-use mathlib.Core.Bool.{Bool, true, _&&_}
 use mathlib.Core.List.{List, [], _∷_, _++_, map, append-nil, List·Memᴰ, List·Memᴰ·head, List·Memᴰ·tail}
 use mathlib.Core.List.{List·Memᴰ·not-nil, List·Memᴰ·cases-cons, Memᴰ·map, Memᴰ·of-map}
 use mathlib.Core.Logic.{_⊎_, ⊎-elim}
@@ -10,10 +10,11 @@ use Prim.Native.Nat.{ℕ, zero, suc, _+_, _-_, _<_, _≤_, zero-le}
 use native.Mathlib.Omega.{arith}
 use lib.Dec.{ltb, leb}
 use borrow.Author.Tests.{leb-true, ltb-true, le-leb, lt-ltb}
+use Rattle.rules.specs.Sets.{every, bit, those, numbers, names, Above, Ascending, keep, all}
 use Rattle.rules.specs.Choice.{if_then_else_}
-use Rattle.rules.specs.Sets.{bit, those, numbers, names, Above, Ascending, keep, all}
-use Rattle.rules.proofs.Logic.{if-true, if-false, if-both, by-cases, and-l, and-r, and-of}
-use Rattle.rules.proofs.SetLaws.{those-in, those-only}
+use Rattle.rules.proofs.SetLaws.{every-at, every-of, those-in, those-only}
+use Rattle.rules.proofs.Logic.{not-or-inv, not-or, same-test, if-true, if-false, if-both, by-cases, and-l}
+use Rattle.rules.proofs.Logic.{and-r, and-of}
 
 -- ----- ascending lists
 
@@ -172,3 +173,14 @@ keep-those f g n =
     (λ h t.
     let r = those-only (λ k. g k && f k) n h t in
     keep-in f (those n g) (those-in g n h (r .0) (and-l _ _ (r .1))) (and-r (g h) (f h) (r .1)))
+
+-- to ask all of those is to ask every number that is one of them
+pub all-those : (f g : ℕ → Bool) (n : ℕ) → all f (those n g) ≡ every n (λ h. not (g h) || f h)
+all-those f g n =
+    same-test (all f (those n g)) (every n (λ h. not (g h) || f h))
+    (λ a. every-of (λ h. not (g h) || f h) n
+    (λ h l. not-or (g h) (f h) (λ y. all-in f (those n g) a (those-in g n h l y))))
+    (λ a. all-of f (those n g)
+    (λ h t.
+    let r = those-only g n h t in
+    not-or-inv (g h) (f h) (every-at (λ k. not (g k) || f k) n h (r .0) a) (r .1)))

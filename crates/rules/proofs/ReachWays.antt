@@ -1,34 +1,26 @@
 -- Interrupts and fences by the tests that lead to each reply, and a selection asked hart by hart, the way a loop goes.
 use mathlib.Core.Path.{_≡_, sym, ap, _∙_, subst}
-use mathlib.Core.Bool.{Bool, true, false, not, _&&_, _||_}
+use mathlib.Core.Bool.{Bool, true, false, not, _||_}
 use mathlib.Core.List.{List, List·Memᴰ}
 use Prim.Native.Nat.{ℕ, _+_}
-use lib.Dec.{eqb}
+use lib.Dec.{leb, eqb}
 use borrow.Author.Tests.{eqb-false, eqb-true}
+use Rattle.rules.specs.Sets.{all, bit, ones, every, those, names, keep}
+use Rattle.rules.specs.Platform.{hypervisor, width, enabled}
 use Rattle.rules.specs.Choice.{if_then_else_}
-use Rattle.rules.specs.Sets.{bit, ones, every, those, names, keep}
 use Rattle.rules.specs.Names.{harts, interruptKind, fenceKind, interruptSent, notSupported, invalidParam}
 use Rattle.rules.specs.Names.{invalidAddress}
-use Rattle.rules.specs.Platform.{width, enabled}
-use Rattle.rules.specs.Masks.{selected, selectionFits, isReached, reached, sendTo}
+use Rattle.rules.specs.Masks.{selected, selectionFits, isReached, reached, sendTo, selects, bitFits, reaches}
 use Rattle.rules.specs.Fences.{sentCode, idValid, hypervisorsFit, rangeValid, interruptReply, fenceReply}
 use Rattle.rules.specs.Replies.{View, fails}
 use Rattle.rules.specs.declared.platform.Platform.{Platform}
 use Rattle.rules.specs.declared.records.Hart.{Hart}
 use Rattle.rules.proofs.Logic.{if-true, if-false, by-cases, same-test, not-or, not-or-inv}
 use Rattle.rules.proofs.SetLaws.{every-at, every-of, those-only, those-ext}
-use Rattle.rules.proofs.Ascending.{all-of, keep-those, numbers-in, numbers-only}
+use Rattle.rules.proofs.Ascending.{all-of, keep-those, all-those, numbers-in, numbers-only}
 use Rattle.rules.proofs.Masks.{selected-everyone, selected-named, selected-those, fits-in}
 
 -- ----- hart by hart
-
--- whether a mask selects hart h, asked of h alone; it says so where the mask fits
-unfoldable pub selects : Platform → (m base h : ℕ) → Bool
-selects p m base h = if eqb base (ones (width p)) then enabled p h else names (width p) base m h
-
--- whether bit i, if it is set, selects an enabled hart
-unfoldable pub bitFits : Platform → (m base i : ℕ) → Bool
-bitFits p m base i = not (bit m i) || enabled p (base + i)
 
 module _ (p : Platform) (m base : ℕ) where
   pub fits-everyone : base ≡ ones (width p) → selectionFits p m base ≡ true
@@ -64,10 +56,18 @@ module _ (p : Platform) (m base : ℕ) where
       ∙ those-ext harts (names (width p) base m) (selects p m base) (λ h l. sym (if-false _ _ n)))
 
   pub reached-by-hart : (hs : List Hart) → selectionFits p m base ≡ true
-      → reached p hs m base ≡ those harts (λ h. selects p m base h && isReached hs h)
-  unfolding reached
+      → reached p hs m base ≡ those harts (reaches p hs m base)
+  unfolding reached reaches
   reached-by-hart hs f =
       ap (keep (isReached hs)) (selected-by-hart f) ∙ keep-those (isReached hs) (selects p m base) harts
+
+  pub hypervisors-by-hart : (f : ℕ) → selectionFits p m base ≡ true
+      → hypervisorsFit p f (selected p m base)
+      ≡ if leb 3 f then every harts (λ h. not (selects p m base h) || hypervisor p h) else true
+  unfolding hypervisorsFit
+  hypervisors-by-hart f fit =
+      ap (λ (b : Bool). if leb 3 f then b else true)
+      (ap (all (hypervisor p)) (selected-by-hart fit) ∙ all-those (hypervisor p) (selects p m base) harts)
 
 -- ----- the replies
 

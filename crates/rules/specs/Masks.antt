@@ -1,10 +1,10 @@
 -- Which harts a mask selects, which of them are reached, and the actions for them.
-use mathlib.Core.Bool.{Bool, not, _||_}
+use mathlib.Core.Bool.{Bool, not, _||_, _&&_}
 use mathlib.Core.List.{List, map}
-use Prim.Native.Nat.{ℕ}
+use Prim.Native.Nat.{_+_, ℕ}
 use lib.Dec.{eqb}
+use Rattle.rules.specs.Sets.{bit, names, those, numbers, ones, keep, all}
 use Rattle.rules.specs.Choice.{if_then_else_}
-use Rattle.rules.specs.Sets.{those, numbers, ones, keep, all}
 use Rattle.rules.specs.Names.{harts, STOPPED, STOP-PENDING}
 use Rattle.rules.specs.Platform.{width, enabled}
 use Rattle.rules.specs.Tables.{stateOf}
@@ -38,3 +38,19 @@ actionFor k s n i h = record { target = h; kind = k; start = s; size = n; id = i
 -- one action for each of these harts, and one event of this code sent to each of them
 unfoldable pub sendTo : (kind start size id code : ℕ) → List ℕ → Plain
 sendTo k s n i c hs = sends (map (actionFor k s n i) hs) c hs
+
+-- ----- the same, asked of one bit or of one hart alone; of a hart it is right where the mask fits
+
+-- bit i, if it is set, selects an enabled hart
+unfoldable pub bitFits : Platform → (mask base i : ℕ) → Bool
+bitFits p m base i = not (bit m i) || enabled p (base + i)
+
+-- hart h is selected
+unfoldable pub selects : Platform → (mask base h : ℕ) → Bool
+selects p m base h =
+    if eqb base (ones (width p)) then enabled p h
+    else names (width p) base m h
+
+-- hart h is selected and reached
+unfoldable pub reaches : Platform → List Hart → (mask base h : ℕ) → Bool
+reaches p hs m base h = selects p m base h && isReached hs h
