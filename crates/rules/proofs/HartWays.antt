@@ -54,11 +54,12 @@ module _ (p : Platform) (v : View) (k : ℕ) where
 
 -- ----- stop and suspend
 
-module _ (p : Platform) (v : View) (h : ℕ) where
-  pub stop-given : stopReply v h ≡ moves v true [] (set (v .harts) h (inState (hartAt (v .harts) h) STOP-PENDING))
-  unfolding stopReply
-  stop-given = refl
+pub stop-given : (v : View) (h : ℕ)
+    → stopReply v h ≡ moves v true [] (set (v .harts) h (inState (hartAt (v .harts) h) STOP-PENDING))
+unfolding stopReply
+stop-given v h = refl
 
+module _ (p : Platform) (v : View) (h : ℕ) where
   module _ (y a o : ℕ) where
     pub suspend-retentive : y ≡ retentiveType
         → suspendReply p v h y a o ≡ moves v true [] (set (v .harts) h (suspendOf true a o))
