@@ -1,0 +1,8 @@
+-- Laws of the words. No contract cites these files.
+pub mod ListLaws
+pub mod ByteLaws
+pub mod RowLaws
+pub mod CounterLaws
+pub mod CountLaws
+pub mod ViewLaws
+pub mod OnlyLaws

@@ -1,0 +1,3 @@
+-- What the words of the rows mean, and what is promised of the functions on them.
+pub mod Rows
+pub mod Seen
