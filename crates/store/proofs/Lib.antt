@@ -6,3 +6,6 @@ pub mod CounterLaws
 pub mod CountLaws
 pub mod ViewLaws
 pub mod OnlyLaws
+pub mod ControlLaws
+pub mod TestLaws
+pub mod WholeLaws

@@ -1,3 +1,4 @@
 -- What the words of the rows mean, and what is promised of the functions on them.
 pub mod Rows
+pub mod Tests
 pub mod Seen

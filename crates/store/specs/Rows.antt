@@ -7,6 +7,7 @@
 --   counterIn r i             counter i of a row; `countersIn r`: all eight
 --   Fit r                     r has the shape that its type gives it
 --   Held r x cs               the row r holds the record x and the counters cs
+--   Alters r r′ f             the row r′ is r with its counters altered by f
 use mathlib.Core.Path.{_≡_}
 use mathlib.Core.Bool.{Bool, true, false}
 use mathlib.Core.List.{List, [], _∷_, _++_}
@@ -82,11 +83,13 @@ lastControl = 44
 unfoldable pub counterOf : ℕ → ℕ → Counter
 counterOf b v =
     if eqb b 0 then record { mapped = false; code = 0; running = false; value = v }
-    else if ltb b runningCode then record { mapped = true; code = b - stoppedCode; running = false; value = v }
+    else if ltb b runningCode
+    then record { mapped = true; code = b - stoppedCode; running = false; value = v }
     else record { mapped = true; code = b - runningCode; running = true; value = v }
 
 abbrev pub controlOf : Counter → ℕ
-controlOf c = if c .mapped then (if c .running then c .code + runningCode else c .code + stoppedCode) else 0
+controlOf c =
+    if c .mapped then (if c .running then c .code + runningCode else c .code + stoppedCode) else 0
 
 unfoldable pub counterIn : List ℕ → ℕ → Counter
 counterIn r i = counterOf (byte (getD r controlAt 0) i) (getD r (valuesAt + i) 0)
@@ -109,3 +112,7 @@ pub record Held (r : List ℕ) (x : Hart) (cs : List Counter) : Type 0 where
   pub record′ : hartIn r ≡ x
   pub own : countersIn r ≡ cs
   pub fit : Fit r
+
+-- the row r′ is r with its counters altered by f
+abbrev pub Alters : (r r′ : List ℕ) → (List Counter → List Counter) → Type 0
+Alters r r′ f = Held r′ (hartIn r) (f (countersIn r))

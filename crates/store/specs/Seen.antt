@@ -3,7 +3,7 @@
 --   Shaped t            the rows t have the shape that their type gives them
 --   Holds t s           the rows t hold the tables s
 --   putHart, putOwn     the tables with hart h's record, or its eight counters, put anew
---   putCounter          the tables with counter i of hart h put anew
+--   alterOwn            the tables with hart h's eight counters altered
 --   countHart           the tables after an event of a code at hart h
 use mathlib.Core.Path.{_≡_}
 use mathlib.Core.List.{List, [], map}
@@ -25,8 +25,8 @@ putHart s h x = record { harts = set (s .harts) h x; counters = s .counters }
 abbrev pub putOwn : Tables → (h : ℕ) → List Counter → Tables
 putOwn s h cs = record { harts = s .harts; counters = set (s .counters) h cs }
 
-abbrev pub putCounter : Tables → (h i : ℕ) → Counter → Tables
-putCounter s h i c = putOwn s h (set (ownAt s h) i c)
+abbrev pub alterOwn : Tables → (h : ℕ) → (List Counter → List Counter) → Tables
+alterOwn s h f = putOwn s h (f (ownAt s h))
 
 abbrev pub countHart : Tables → (h code : ℕ) → Tables
 countHart s h e = record { harts = s .harts; counters = countAt h e (s .counters) }
@@ -36,7 +36,8 @@ pub record Shaped (t : List (List ℕ)) : Type 0 where
   size : length t ≡ harts
   rows : (h : ℕ) → h < harts → Fit (getD t h [])
 
-pub makeShaped : (t : List (List ℕ)) → length t ≡ harts → ((h : ℕ) → h < harts → Fit (getD t h [])) → Shaped t
+pub makeShaped : (t : List (List ℕ)) → length t ≡ harts → ((h : ℕ) → h < harts → Fit (getD t h []))
+    → Shaped t
 makeShaped t e f = record { size = e; rows = f }
 
 pub sizeOf : (t : List (List ℕ)) → Shaped t → length t ≡ harts

@@ -7,7 +7,7 @@ ghost use Rattle.rules.specs.Names.{counters, lastCode};
 ghost use Rattle.rules.specs.Tables.{counterAt, CounterFine};
 ghost use Rattle.rules.specs.Replies.{counted};
 ghost use Rattle.rules.specs.Counters.{configured};
-ghost use Rattle.store.specs.Rows.{Fit, Held, hartIn, byte, counterOf, countersIn};
+ghost use Rattle.store.specs.Rows.{Fit, Alters, byte, counterOf, countersIn};
 ghost use Rattle.store.specs.Rows.{withByte, controlOf};
 use crate::choice::choose;
 use crate::choice::either;
@@ -89,7 +89,7 @@ fn control_of(c: Counter) -> u64
 // Puts counter i into a row.
 pub fn write_counter(r: &mut Row, i: usize, c: Counter)
     requires { ⌜ Fit (now r) × ((i < counters) × CounterFine c) ⌝ }
-    ensures { λ _. ⌜ Held (now (r .exit)) (hartIn (now (r .entry))) (set (countersIn (now (r .entry))) i c) ⌝ }
+    ensures { λ _. ⌜ Alters (now (r .entry)) (now (r .exit)) (λ cs. set cs i c) ⌝ }
 {
     r[CONTROL] = with_byte(r[CONTROL], i as u64, control_of(c));
     r[VALUES + i] = c.value;
@@ -110,7 +110,7 @@ fn configured(c: Counter, flags: u64, code: u64) -> Counter
 // Configures counter i of a row.
 pub fn configure_counter(r: &mut Row, i: usize, flags: u64, code: u64)
     requires { ⌜ Fit (now r) × ((i < counters) × (code ≤ lastCode)) ⌝ }
-    ensures { λ _. ⌜ Held (now (r .exit)) (hartIn (now (r .entry))) (set (countersIn (now (r .entry))) i (configured flags code (counterAt (countersIn (now (r .entry))) i))) ⌝ }
+    ensures { λ _. ⌜ Alters (now (r .entry)) (now (r .exit)) (λ cs. set cs i (configured flags code (counterAt cs i))) ⌝ }
 {
     write_counter(r, i, configured(read_counter(r, i), flags, code));
 }
@@ -119,7 +119,7 @@ pub fn configure_counter(r: &mut Row, i: usize, flags: u64, code: u64)
 // code."
 pub fn count_row(r: &mut Row, code: u64)
     requires { ⌜ Fit (now r) × (code ≤ lastCode) ⌝ }
-    ensures { λ _. ⌜ Held (now (r .exit)) (hartIn (now (r .entry))) (map (counted code) (countersIn (now (r .entry)))) ⌝ }
+    ensures { λ _. ⌜ Alters (now (r .entry)) (now (r .exit)) (map (counted code)) ⌝ }
 {
     let want = code + RUNNING_CODE;
     let mut control = r[CONTROL];

@@ -1,10 +1,11 @@
 // What the crate above is given: each function on the rows of all harts, said through the view.
 ghost use mathlib.Core.Path.{_≡_};
 ghost use Prim.Native.Nat.{_<_, _≤_};
+ghost use lib.ListN.{set};
 ghost use Rattle.rules.specs.Names.{harts, counters, lastCode, RESUME-PENDING};
 ghost use Rattle.rules.specs.Tables.{hartAt, ownAt, counterAt};
 ghost use Rattle.rules.specs.Counters.{configured};
-ghost use Rattle.store.specs.Seen.{seen, Shaped, Holds, putHart, putCounter, countHart};
+ghost use Rattle.store.specs.Seen.{seen, Shaped, Holds, putHart, alterOwn, countHart};
 use crate::counters::configure_counter;
 use crate::counters::count_row;
 use crate::counters::read_counter;
@@ -49,7 +50,7 @@ pub fn count(t: &mut Rows, h: usize, code: u64)
 // Configures counter i of hart h.
 pub fn configure(t: &mut Rows, h: usize, i: usize, flags: u64, code: u64)
     requires { ⌜ (h < harts) × ((i < counters) × ((code ≤ lastCode) × Shaped (now t))) ⌝ }
-    ensures { λ _. ⌜ Holds (now (t .exit)) (putCounter (seen (now (t .entry))) h i (configured flags code (counterAt (ownAt (seen (now (t .entry))) h) i))) ⌝ }
+    ensures { λ _. ⌜ Holds (now (t .exit)) (alterOwn (seen (now (t .entry))) h (λ cs. set cs i (configured flags code (counterAt cs i)))) ⌝ }
 {
     configure_counter(&mut t[h], i, flags, code);
 }
