@@ -1,22 +1,22 @@
 -- Laws of the two halves of the rows: together they are the test of the tables, and the shape.
 use mathlib.Core.Path.{_≡_, refl, sym, ap, ap₂, _∙_, subst}
-use mathlib.Core.Bool.{Bool, true, false, _&&_, and-true, and-assoc}
+use mathlib.Core.Bool.{Bool, true, false, _&&_}
 use mathlib.Core.List.{List, []}
 use Prim.Native.Nat.{ℕ, zero, suc, _+_, _-_, _<_}
 use native.Mathlib.Numerals.{add-one}
 use native.Mathlib.Omega.{arith}
-use lib.Dec.{eqb}
 use lib.ListN.{length, getD, length-map}
-use borrow.Author.Tests.{eq-eqb, lt-ltb, le-ltb}
+use borrow.Author.Tests.{eq-eqb}
 use Rattle.rules.specs.Sets.{bit, every}
-use Rattle.rules.specs.Platform.{has, enabled}
+use Rattle.rules.specs.Platform.{enabled}
 use Rattle.rules.specs.Tables.{hartAt, ownAt, counterAt, hartWellFormed, counterWellFormed}
 use Rattle.rules.specs.Tables.{shaped, hartRowWellFormed, tablesWellFormed}
 use Rattle.rules.specs.declared.platform.Platform.{Platform}
 use Rattle.rules.specs.declared.records.Hart.{Hart}
 use Rattle.rules.specs.declared.records.Counter.{Counter}
-use Rattle.rules.proofs.Logic.{if-true, if-false, below-or, and-of}
+use Rattle.rules.proofs.Logic.{below-or, and-of}
 use Rattle.rules.proofs.SetLaws.{every-of, every-ext}
+use Rattle.rules.proofs.platform.HalfLaws.{has-low, has-high, every-halves}
 use Rattle.store.specs.Rows.{hartIn, counterIn, countersIn, Fit}
 use Rattle.store.specs.Tests.{rowWellFormed, Half}
 use Rattle.store.specs.Seen.{seen, Shaped, makeShaped, sizeOf}
@@ -60,26 +60,14 @@ module _ (p : Platform) (t : List (List ℕ)) (k : Shaped t) where
   unfolding tablesWellFormed
   all-seen = rw shaped-seen (every-ext _ _ 128 row-seen)
 
-every-split : (n k : ℕ) (f : ℕ → Bool) → k ≡ 64 + n → every k f ≡ (every 64 f && every n (λ i. f (64 + i)))
-unfolding every
-every-split zero k f e = ap (λ (j : ℕ). every j f) (let z : k ≡ 64 = omega arith in z) ∙ sym (and-true (every 64 f))
-every-split (suc n) zero f e = absurd (omega arith)
-every-split (suc n) (suc k) f e =
-    let q : k ≡ 64 + n = omega arith in
-    ap₂ (λ (a b : Bool). a && b) (every-split n k f q) (ap f q) ∙ and-assoc (every 64 f) (every n (λ i. f (64 + i))) (f (64 + n))
-
 module _ (p : Platform) (t : List (List ℕ)) where
   low : (k : ℕ) → k < 64 → rowWellFormed (enabled p k) (getD t k []) ≡ rowWellFormed (bit (p .enabled .low) k) (getD t (0 + k) [])
-  unfolding enabled has
-  low k l =
-      ap₂ (λ (b : Bool) (j : ℕ). rowWellFormed b (getD t j [])) (if-true _ _ (lt-ltb k 64 l)) (let z : k ≡ 0 + k = omega arith in z)
+  unfolding enabled
+  low k l = ap₂ (λ (b : Bool) (j : ℕ). rowWellFormed b (getD t j [])) (has-low (p .enabled) k l) (let z : k ≡ 0 + k = omega arith in z)
 
   high : (k : ℕ) → k < 64 → rowWellFormed (enabled p (64 + k)) (getD t (64 + k) []) ≡ rowWellFormed (bit (p .enabled .high) k) (getD t (64 + k) [])
-  unfolding enabled has
-  high k l =
-      ap (λ (b : Bool). rowWellFormed b (getD t (64 + k) []))
-      (if-false _ _ (le-ltb (64 + k) 64 (omega arith)) ∙ if-true _ _ (lt-ltb (64 + k) 128 (omega arith))
-      ∙ ap (bit (p .enabled .high)) (let z : 64 + k - 64 ≡ k = omega arith in z))
+  unfolding enabled
+  high k l = ap (λ (b : Bool). rowWellFormed b (getD t (64 + k) [])) (has-high (p .enabled) k l)
 
   module _ (a b : Bool) (e : length t ≡ 128) (x : Half (p .enabled .low) t 0 64 a) (y : Half (p .enabled .high) t 64 64 b) where
     pub halves-shaped : Shaped t
@@ -92,5 +80,5 @@ module _ (p : Platform) (t : List (List ℕ)) where
     pub halves-test : (a && b) ≡ tablesWellFormed p (seen t)
     halves-test =
         ap₂ (λ (a b : Bool). a && b) (x .test ∙ sym (every-ext _ _ 64 low)) (y .test ∙ sym (every-ext _ _ 64 high))
-        ∙ sym (every-split 64 128 (λ h. rowWellFormed (enabled p h) (getD t h [])) (omega arith))
+        ∙ sym (every-halves (λ h. rowWellFormed (enabled p h) (getD t h [])))
         ∙ sym (all-seen p t halves-shaped)

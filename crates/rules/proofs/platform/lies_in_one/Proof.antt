@@ -1,0 +1,95 @@
+-- `lies_in_one` asks one used range after the other.
+use Rattle.rules.specs.Platform.{liesIn}
+use Rattle.rules.proofs.Logic.{below-or}
+use Rattle.rules.proofs.platform.RangeLaws.{looked, any-hit, any-none}
+use Prim.Native.Nat.{ℕ, _≤_, _<_, _-_}
+use lib.ListN.{getD, length}
+use mathlib.Core.Bool.{true, false}
+use mathlib.Core.Path.{_≡_, sym, _∙_, ap, subst}
+use native.Mathlib.Omega.{arith}
+use borrow.Author.Needs.{needs}
+use Rattle.rules.proofs.platform.lies_in_one.Statement.{statement}
+use Rattle.rules.proofs.platform.lies_in_one.Tie as tie
+
+abbrev Inv-loop : tie.InvT-loop
+Inv-loop used a ranges n i₀ i = (i ≤ n) × ((n ≤ 8) × ((j : ℕ) → j < i → liesIn a (getD ranges j (record { base = 0; length = 0 })) ≡ false))
+
+abbrev μ-loop : tie.MeasureT-loop
+μ-loop used a ranges n i₀ i = n - i
+
+looked-at-requires : tie.Need-looked-at-requires Inv-loop μ-loop
+looked-at-requires c κs = search needs
+
+loop-holds : tie.Need-loop-holds Inv-loop μ-loop
+loop-holds c =
+    let a = c .before .args in
+    let n = c .looked-at in
+    let e : length (a .t1) ≡ 8 = omega arith in
+    let k = looked (a .t1) (a .used) (n .result) e (n .ensures) in
+    (search needs, (k .few, λ j l. absurd (omega arith)))
+
+mul-range : tie.Need-mul-range Inv-loop μ-loop
+mul-range c = search needs
+
+array-copy-out-range : tie.Need-array-copy-out-range Inv-loop μ-loop
+array-copy-out-range c = search needs
+
+holds-requires : tie.Need-holds-requires Inv-loop μ-loop
+holds-requires c κs = search needs
+
+returns : tie.Need-returns Inv-loop μ-loop
+returns c =
+    let a = c .before .before .before .before .before .before .args in
+    let n = c .before .before .before .before .before .looked-at in
+    let e : length (a .t1) ≡ 8 = omega arith in
+    let k = looked (a .t1) (a .used) (n .result) e (n .ensures) in
+    let i = c .before .before .before .before .loop .i in
+    sym (rw (k .same) at (any-hit (liesIn (a .a)) (a .t1) (n .result) i (record { base = 0; length = 0 }) (omega arith) (omega arith) (sym (c .before .holds .ensures) ∙ c .if1 .taken)))
+
+add-i : tie.Need-add-i Inv-loop μ-loop
+add-i c = search needs
+
+loop-less : tie.Need-loop-less Inv-loop μ-loop
+loop-less c = search needs
+
+loop-again : tie.Need-loop-again Inv-loop μ-loop
+loop-again c =
+    let a = c .before .before .before .before .before .before .args in
+    let n = c .before .before .before .before .before .looked-at in
+    let e : length (a .t1) ≡ 8 = omega arith in
+    let k = looked (a .t1) (a .used) (n .result) e (n .ensures) in
+    let l = c .before .before .before .before .loop in
+    let q = sym (c .before .holds .ensures) ∙ c .if1 .left in (
+      search needs,
+      (
+        k .few,
+        λ j m. below-or j (l .i) (λ p. l .inv .1 .1 j p)
+            (λ p. subst (λ (j : ℕ). liesIn (a .a) (getD (a .t1) j (record { base = 0; length = 0 })) ≡ false) (let z : l .i ≡ j = omega arith in z) q),
+      ),
+    )
+
+returns-2 : tie.Need-returns-2 Inv-loop μ-loop
+returns-2 c =
+    let a = c .before .before .before .args in
+    let n = c .before .before .looked-at in
+    let e : length (a .t1) ≡ 8 = omega arith in
+    let k = looked (a .t1) (a .used) (n .result) e (n .ensures) in
+    let l = c .before .loop in
+    sym (rw (k .same) at (any-none (liesIn (a .a)) (a .t1) (n .result) (record { base = 0; length = 0 }) (k .inside) (λ j m. l .inv .1 .1 j (omega arith))))
+
+pub lies-in-one-spec : {M : Type 1} → statement M
+lies-in-one-spec =
+    tie.close
+    (tie.spec
+    Inv-loop
+    μ-loop
+    looked-at-requires
+    loop-holds
+    mul-range
+    array-copy-out-range
+    holds-requires
+    returns
+    add-i
+    loop-less
+    loop-again
+    returns-2)
