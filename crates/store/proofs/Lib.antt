@@ -6,6 +6,7 @@ pub mod CounterLaws
 pub mod CountLaws
 pub mod ViewLaws
 pub mod OnlyLaws
+pub mod BeginningLaws
 pub mod ControlLaws
 pub mod TestLaws
 pub mod WholeLaws

@@ -5,16 +5,21 @@
 --   putHart, putOwn     the tables with hart h's record, or its eight counters, put anew
 --   alterOwn            the tables with hart h's eight counters altered
 --   countHart           the tables after an event of a code at hart h
+--   freshRows boot      the rows of fresh tables; `FreshOr`: what making them leaves
 use mathlib.Core.Path.{_≡_}
-use mathlib.Core.List.{List, [], map}
+use mathlib.Core.Bool.{Bool, true, false}
+use mathlib.Core.List.{List, [], _∷_, map}
 use Prim.Native.Nat.{ℕ, _<_}
-use lib.ListN.{getD, set, length}
+use lib.Dec.{eqb}
+use lib.ListN.{getD, set, length, replicate}
+use Rattle.rules.specs.Choice.{if_then_else_}
 use Rattle.rules.specs.Names.{harts}
-use Rattle.rules.specs.Tables.{Tables, ownAt}
+use Rattle.rules.specs.Tables.{Tables, ownAt, fresh}
 use Rattle.rules.specs.Replies.{countAt}
+use Rattle.rules.specs.declared.platform.Platform.{Platform}
 use Rattle.rules.specs.declared.records.Hart.{Hart}
 use Rattle.rules.specs.declared.records.Counter.{Counter}
-use Rattle.store.specs.Rows.{hartIn, countersIn, Fit}
+use Rattle.store.specs.Rows.{hartIn, table, countersIn, Fit}
 
 unfoldable pub seen : List (List ℕ) → Tables
 seen t = record { harts = map hartIn t; counters = map countersIn t }
@@ -49,3 +54,17 @@ rowOf t k = k .rows
 pub record Holds (t : List (List ℕ)) (s : Tables) : Type 0 where
   pub is : seen t ≡ s
   pub shaped : Shaped t
+
+-- ----- fresh tables
+
+-- the row of the boot hart, or of another
+abbrev pub freshRow : Bool → List ℕ
+freshRow boot = (if boot then 2 else 4) ∷ replicate 11 0
+
+abbrev pub freshRows : (boot : ℕ) → List (List ℕ)
+freshRows boot = table harts (λ h. freshRow (eqb h boot))
+
+-- what making fresh tables leaves: fresh tables, or what was there
+unfoldable pub FreshOr : Bool → Platform → (t t′ : List (List ℕ)) → Type 0
+FreshOr true p t t′ = Holds t′ (fresh p)
+FreshOr false p t t′ = t′ ≡ t

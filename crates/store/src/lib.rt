@@ -5,4 +5,5 @@ pub mod choice; // tests joined, and one of two numbers
 pub mod records; // a hart's record in its row
 pub mod counters; // the eight counters of a row
 pub mod wholes; // the test of whole tables
+pub mod beginning; // fresh tables
 pub mod keeping; // what the crate above is given
