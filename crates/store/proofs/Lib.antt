@@ -6,6 +6,8 @@ pub mod CounterLaws
 pub mod CountLaws
 pub mod ViewLaws
 pub mod OnlyLaws
+pub mod SetLaws
+pub mod KindLaws
 pub mod BeginningLaws
 pub mod ControlLaws
 pub mod TestLaws
