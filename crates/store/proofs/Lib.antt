@@ -8,6 +8,7 @@ pub mod ViewLaws
 pub mod OnlyLaws
 pub mod SetLaws
 pub mod KindLaws
+pub mod EachLaws
 pub mod BeginningLaws
 pub mod ControlLaws
 pub mod TestLaws

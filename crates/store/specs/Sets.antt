@@ -2,11 +2,14 @@
 --   maskOf n f       the word whose bit i is f i, for each i below n
 --   numberOf o       the number of a counter, or 8 if there is none
 --   Fine cs          each of the counters cs is well formed
+--   atOne, Kept      a change of the counters of a set, at one of them; that it keeps them well formed
 --   setOf s          the counters that the low eight bits of a word name
-use mathlib.Core.Bool.{Bool}
+use mathlib.Core.Path.{_≡_}
+use mathlib.Core.Bool.{Bool, true}
 use mathlib.Core.List.{List}
 use mathlib.Core.Option.{Option, none, some}
-use Prim.Native.Nat.{ℕ, zero, suc, _+_, _*_}
+use Prim.Native.Nat.{ℕ, zero, suc, _+_, _*_, _<_}
+use lib.ListN.{set}
 use Rattle.rules.specs.Choice.{if_then_else_}
 use Rattle.rules.specs.Names.{counters}
 use Rattle.rules.specs.Sets.{bit, those}
@@ -26,3 +29,14 @@ Fine cs = (i : ℕ) → CounterFine (counterAt cs i)
 
 abbrev pub setOf : ℕ → List ℕ
 setOf s = those counters (bit s)
+
+-- f at counter i, if the set s has it
+abbrev pub atOne : (Counter → Counter) → (s i : ℕ) → List Counter → List Counter
+atOne f s i cs = if bit s i then set cs i (f (counterAt cs i)) else cs
+
+-- f keeps counter i well formed, if the set s has it; it keeps each
+abbrev pub KeptAt : (Counter → Counter) → (s i : ℕ) → List Counter → Type 0
+KeptAt f s i cs = bit s i ≡ true → CounterFine (f (counterAt cs i))
+
+abbrev pub Kept : (Counter → Counter) → (s : ℕ) → List Counter → Type 0
+Kept f s cs = (i : ℕ) → i < counters → KeptAt f s i cs

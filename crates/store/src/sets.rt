@@ -1,17 +1,13 @@
 // Sets of a row's counters as words of bits: the tests, the match, start and stop.
 ghost use mathlib.Core.Path.{_≡_};
-ghost use mathlib.Core.Bool.{true};
 ghost use Prim.Native.Nat.{_<_};
 ghost use lib.Bits.{bitAnd};
 ghost use lib.Dec.{eqb, leb};
-ghost use lib.ListN.{set};
-ghost use Rattle.rules.specs.Choice.{if_then_else_};
 ghost use Rattle.rules.specs.Names.{counters};
-ghost use Rattle.rules.specs.Sets.{bit, all};
-ghost use Rattle.rules.specs.Tables.{counterAt, CounterFine};
+ghost use Rattle.rules.specs.Sets.{all};
 ghost use Rattle.rules.specs.Counters.{isMapped, isRunning, notRunning, chosen, each, begun, ended};
 ghost use Rattle.store.specs.Rows.{byte, countersIn, Fit, Alters};
-ghost use Rattle.store.specs.Sets.{maskOf, numberOf, setOf, Fine};
+ghost use Rattle.store.specs.Sets.{maskOf, numberOf, setOf, atOne, KeptAt, Kept};
 use crate::choice::choose;
 use crate::counters::read_counter;
 use crate::counters::write_counter;
@@ -99,4 +95,76 @@ pub fn row_match(r: &Row, s: u64, flags: u64) -> u64
 {
     let free = choose(bit_of(flags, 0), ALL, idle_in(r));
     u64::trailing_zeros((s & free) | PAST) as u64
+}
+
+// "Bit 0 loads a3."
+fn begun(c: Counter, flags: u64, initial: u64) -> Counter
+    ensures { λ d. ⌜ d ≡ begun flags initial c ⌝ }
+{
+    Counter {
+        mapped: c.mapped,
+        code: c.code,
+        running: true,
+        value: choose(bit_of(flags, 0), initial, c.value),
+    }
+}
+
+// "Bit 0 also unmaps; the value stays."
+fn ended(c: Counter, flags: u64) -> Counter
+    ensures { λ d. ⌜ d ≡ ended flags c ⌝ }
+{
+    if bit_of(flags, 0) {
+        return Counter {
+            mapped: false,
+            code: 0,
+            running: false,
+            value: c.value,
+        };
+    }
+    Counter {
+        mapped: c.mapped,
+        code: c.code,
+        running: false,
+        value: c.value,
+    }
+}
+
+// Starts counter i if the set has it.
+fn start_one(r: &mut Row, i: usize, s: u64, flags: u64, initial: u64)
+    requires { ⌜ Fit (now r) × ((i < counters) × KeptAt (begun flags initial) s i (countersIn (now r))) ⌝ }
+    ensures { λ _. ⌜ Alters (now (r .entry)) (now (r .exit)) (atOne (begun flags initial) s i) ⌝ }
+{
+    if bit_of(s, i as u64) {
+        write_counter(r, i, begun(read_counter(r, i), flags, initial));
+    }
+}
+
+// Stops counter i if the set has it.
+fn stop_one(r: &mut Row, i: usize, s: u64, flags: u64)
+    requires { ⌜ Fit (now r) × ((i < counters) × KeptAt (ended flags) s i (countersIn (now r))) ⌝ }
+    ensures { λ _. ⌜ Alters (now (r .entry)) (now (r .exit)) (atOne (ended flags) s i) ⌝ }
+{
+    if bit_of(s, i as u64) {
+        write_counter(r, i, ended(read_counter(r, i), flags));
+    }
+}
+
+// Starts each counter of the set.
+pub fn start_row(r: &mut Row, s: u64, flags: u64, initial: u64)
+    requires { ⌜ Fit (now r) × Kept (begun flags initial) s (countersIn (now r)) ⌝ }
+    ensures { λ _. ⌜ Alters (now (r .entry)) (now (r .exit)) (each (begun flags initial) (setOf s)) ⌝ }
+{
+    for i in 0..8 {
+        start_one(r, i, s, flags, initial);
+    }
+}
+
+// Stops each counter of the set.
+pub fn stop_row(r: &mut Row, s: u64, flags: u64)
+    requires { ⌜ Fit (now r) × Kept (ended flags) s (countersIn (now r)) ⌝ }
+    ensures { λ _. ⌜ Alters (now (r .entry)) (now (r .exit)) (each (ended flags) (setOf s)) ⌝ }
+{
+    for i in 0..8 {
+        stop_one(r, i, s, flags);
+    }
 }
