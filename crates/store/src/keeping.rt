@@ -1,10 +1,14 @@
 // What the crate above is given: each function on the rows of all harts, said through the view.
 ghost use mathlib.Core.Path.{_≡_};
+ghost use mathlib.Core.Bool.{true};
 ghost use Prim.Native.Nat.{_<_, _≤_};
 ghost use lib.ListN.{set};
 ghost use Rattle.rules.specs.Names.{harts, counters, lastCode, RESUME-PENDING};
 ghost use Rattle.rules.specs.Tables.{hartAt, ownAt, counterAt};
-ghost use Rattle.rules.specs.Counters.{configured};
+ghost use Rattle.rules.specs.Sets.{all};
+ghost use Rattle.rules.specs.Counters.{isMapped, isRunning, notRunning, chosen, configured};
+ghost use Rattle.rules.specs.Counters.{each, begun, ended};
+ghost use Rattle.store.specs.Sets.{numberOf, setOf, Fine};
 ghost use Rattle.store.specs.Seen.{seen, Shaped, Holds, putHart, alterOwn, countHart};
 use crate::counters::configure_counter;
 use crate::counters::count_row;
@@ -12,6 +16,12 @@ use crate::counters::read_counter;
 use crate::records::pack;
 use crate::records::unpack;
 use crate::rows::Rows;
+use crate::sets::row_all_mapped;
+use crate::sets::row_all_running;
+use crate::sets::row_match;
+use crate::sets::row_none_running;
+use crate::sets::start_row;
+use crate::sets::stop_row;
 use rules::records::Counter;
 use rules::records::Hart;
 
@@ -53,4 +63,52 @@ pub fn configure(t: &mut Rows, h: usize, i: usize, flags: u64, code: u64)
     ensures { λ _. ⌜ Holds (now (t .exit)) (alterOwn (seen (now (t .entry))) h (λ cs. set cs i (configured flags code (counterAt cs i)))) ⌝ }
 {
     configure_counter(&mut t[h], i, flags, code);
+}
+
+// Whether each counter of the set s of hart h is mapped.
+pub fn all_mapped(t: &Rows, h: usize, s: u64) -> bool
+    requires { ⌜ (h < harts) × Shaped (now t) ⌝ }
+    ensures { λ b. ⌜ b ≡ all (isMapped (ownAt (seen (now (t .entry))) h)) (setOf s) ⌝ }
+{
+    row_all_mapped(&t[h], s)
+}
+
+// Whether each counter of the set s of hart h runs.
+pub fn all_running(t: &Rows, h: usize, s: u64) -> bool
+    requires { ⌜ (h < harts) × Shaped (now t) ⌝ }
+    ensures { λ b. ⌜ b ≡ all (isRunning (ownAt (seen (now (t .entry))) h)) (setOf s) ⌝ }
+{
+    row_all_running(&t[h], s)
+}
+
+// Whether no counter of the set s of hart h runs.
+pub fn none_running(t: &Rows, h: usize, s: u64) -> bool
+    requires { ⌜ (h < harts) × Shaped (now t) ⌝ }
+    ensures { λ b. ⌜ b ≡ all (notRunning (ownAt (seen (now (t .entry))) h)) (setOf s) ⌝ }
+{
+    row_none_running(&t[h], s)
+}
+
+// The counter of the set s of hart h that a configuration takes; 8 if there is none.
+pub fn match_counter(t: &Rows, h: usize, s: u64, flags: u64) -> u64
+    requires { ⌜ (h < harts) × Shaped (now t) ⌝ }
+    ensures { λ n. ⌜ n ≡ numberOf (chosen flags (ownAt (seen (now (t .entry))) h) (setOf s)) ⌝ }
+{
+    row_match(&t[h], s, flags)
+}
+
+// Starts each counter of the set s of hart h. They are mapped.
+pub fn start_set(t: &mut Rows, h: usize, s: u64, flags: u64, initial: u64)
+    requires { ⌜ (h < harts) × (Shaped (now t) × (Fine (ownAt (seen (now t)) h) × (all (isMapped (ownAt (seen (now t)) h)) (setOf s) ≡ true))) ⌝ }
+    ensures { λ _. ⌜ Holds (now (t .exit)) (alterOwn (seen (now (t .entry))) h (each (begun flags initial) (setOf s))) ⌝ }
+{
+    start_row(&mut t[h], s, flags, initial);
+}
+
+// Stops each counter of the set s of hart h.
+pub fn stop_set(t: &mut Rows, h: usize, s: u64, flags: u64)
+    requires { ⌜ (h < harts) × (Shaped (now t) × Fine (ownAt (seen (now t)) h)) ⌝ }
+    ensures { λ _. ⌜ Holds (now (t .exit)) (alterOwn (seen (now (t .entry))) h (each (ended flags) (setOf s))) ⌝ }
+{
+    stop_row(&mut t[h], s, flags);
 }
