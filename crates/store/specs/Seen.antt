@@ -65,6 +65,6 @@ abbrev pub freshRows : (boot : ℕ) → List (List ℕ)
 freshRows boot = table harts (λ h. freshRow (eqb h boot))
 
 -- what making fresh tables leaves: fresh tables, or what was there
-unfoldable pub FreshOr : Bool → Platform → (t t′ : List (List ℕ)) → Type 0
+abbrev pub FreshOr : Bool → Platform → (t t′ : List (List ℕ)) → Type 0
 FreshOr true p t t′ = Holds t′ (fresh p)
 FreshOr false p t t′ = t′ ≡ t

@@ -20,7 +20,7 @@ unfoldable pub maskOf : ℕ → (ℕ → Bool) → ℕ
 maskOf zero f = 0
 maskOf (suc n) f = (if f 0 then 1 else 0) + 2 * maskOf n (λ i. f (suc i))
 
-unfoldable pub numberOf : Option ℕ → ℕ
+abbrev pub numberOf : Option ℕ → ℕ
 numberOf none = counters
 numberOf (some i) = i
 

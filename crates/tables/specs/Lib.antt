@@ -1,0 +1,2 @@
+-- What the table keeping promises.
+pub mod Keeping
