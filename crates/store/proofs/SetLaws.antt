@@ -187,7 +187,7 @@ first-those (suc n) f t l e q =
 
 pub lowest-number : (m : ℕ) (f : ℕ → Bool) → m < 2 ^ 64 → ((i : ℕ) → i < 8 → bit m i ≡ f i) → bit m 8 ≡ true → 0 < m
     → trailingZeros 64 m ≡ numberOf (first (those 8 f))
-unfolding numberOf first
+unfolding first
 lowest-number m f s e q p =
     let t = trailingZeros 64 m in
     let l = lowest 64 m p s in

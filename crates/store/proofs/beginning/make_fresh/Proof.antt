@@ -1,6 +1,5 @@
 -- `make_fresh` fills the rows of an accepted platform, whose boot hart is one of them.
 use Rattle.rules.proofs.WellFormed.{platform-agrees, enabled-under}
-
 use Rattle.store.proofs.BeginningLaws.{fresh-holds}
 use mathlib.Core.Path.{refl, sym, _∙_}
 use borrow.Author.Tests.{not-true, not-false}
@@ -12,14 +11,12 @@ accepted-requires : tie.Need-accepted-requires
 accepted-requires c κs = search needs
 
 returns : tie.Need-returns
-
 returns c = (sym (sym (c .before .accepted .ensures) ∙ not-true _ (c .if1 .taken)), refl)
 
 fill-requires : tie.Need-fill-requires
 fill-requires c κs = search needs
 
 returns-2 : tie.Need-returns-2
-
 returns-2 c =
     let p = c .before .before .before .before .args .p in
     let e = sym (c .before .before .before .accepted .ensures) ∙ not-false _ (c .before .before .if1 .left) in
