@@ -6,6 +6,7 @@ pub mod CounterLaws
 pub mod CountLaws
 pub mod ViewLaws
 pub mod OnlyLaws
+pub mod SettlingLaws
 pub mod KeepLaws
 pub mod SetLaws
 pub mod KindLaws

@@ -3,3 +3,4 @@ pub mod Rows
 pub mod Sets
 pub mod Tests
 pub mod Seen
+pub mod Settling

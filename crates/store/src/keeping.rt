@@ -4,12 +4,13 @@ ghost use mathlib.Core.Bool.{true};
 ghost use Prim.Native.Nat.{_<_, _≤_};
 ghost use lib.ListN.{set};
 ghost use Rattle.rules.specs.Names.{harts, counters, lastCode, RESUME-PENDING};
-ghost use Rattle.rules.specs.Tables.{hartAt, ownAt, counterAt};
+ghost use Rattle.rules.specs.Tables.{hartAt, stateOf, ownAt, counterAt};
 ghost use Rattle.rules.specs.Sets.{all};
 ghost use Rattle.rules.specs.Counters.{isMapped, isRunning, notRunning, chosen, configured};
 ghost use Rattle.rules.specs.Counters.{each, begun, ended};
 ghost use Rattle.store.specs.Sets.{numberOf, setOf, Fine};
 ghost use Rattle.store.specs.Seen.{seen, Shaped, Holds, putHart, alterOwn, countHart};
+ghost use Rattle.store.specs.Settling.{completeHart};
 use crate::counters::configure_counter;
 use crate::counters::count_row;
 use crate::counters::read_counter;
@@ -22,6 +23,7 @@ use crate::sets::row_match;
 use crate::sets::row_none_running;
 use crate::sets::start_row;
 use crate::sets::stop_row;
+use crate::settling::settle_row;
 use rules::records::Counter;
 use rules::records::Hart;
 
@@ -39,6 +41,14 @@ pub fn put_hart(t: &mut Rows, h: usize, x: Hart)
     ensures { λ _. ⌜ Holds (now (t .exit)) (putHart (seen (now (t .entry))) h x) ⌝ }
 {
     pack(&mut t[h], x);
+}
+
+// Completes the pending state of hart h; leaves a record with none.
+pub fn complete(t: &mut Rows, h: usize)
+    requires { ⌜ (h < harts) × ((stateOf (seen (now t) .harts) h ≤ RESUME-PENDING) × Shaped (now t)) ⌝ }
+    ensures { λ _. ⌜ Holds (now (t .exit)) (completeHart (seen (now (t .entry))) h) ⌝ }
+{
+    settle_row(&mut t[h]);
 }
 
 // Counter i of hart h.

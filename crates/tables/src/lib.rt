@@ -6,12 +6,12 @@ ghost use Prim.Native.Nat.{_<_, _≤_};
 ghost use lib.ListN.{set};
 ghost use Rattle.rules.specs.Names.{harts, counters, lastCode, RESUME-PENDING};
 ghost use Rattle.rules.specs.Platform.{platformAccepted};
-ghost use Rattle.rules.specs.Tables.{hartAt, ownAt, counterAt, tablesWellFormed};
+ghost use Rattle.rules.specs.Tables.{hartAt, stateOf, ownAt, counterAt, tablesWellFormed};
 ghost use Rattle.rules.specs.Sets.{all};
 ghost use Rattle.rules.specs.Counters.{isMapped, isRunning, notRunning, chosen, configured};
 ghost use Rattle.rules.specs.Counters.{each, begun, ended};
 ghost use Rattle.tables.specs.Keeping.{seen, Shaped, Holds, putHart, alterOwn, countHart};
-ghost use Rattle.tables.specs.Keeping.{FreshOr, setOf, numberOf, Fine};
+ghost use Rattle.tables.specs.Keeping.{completeHart, FreshOr, setOf, numberOf, Fine};
 use rules::platform::Platform;
 use rules::records::Counter;
 use rules::records::Hart;
@@ -47,6 +47,14 @@ pub fn put_hart(t: &mut Rows, h: usize, x: Hart)
     ensures { λ _. ⌜ Holds (now (t .exit)) (putHart (seen (now (t .entry))) h x) ⌝ }
 {
     store::keeping::put_hart(t, h, x);
+}
+
+// Completes the pending state of hart h; leaves a record with none.
+pub fn complete(t: &mut Rows, h: usize)
+    requires { ⌜ (h < harts) × ((stateOf (seen (now t) .harts) h ≤ RESUME-PENDING) × Shaped (now t)) ⌝ }
+    ensures { λ _. ⌜ Holds (now (t .exit)) (completeHart (seen (now (t .entry))) h) ⌝ }
+{
+    store::keeping::complete(t, h);
 }
 
 // Counter i of hart h.
