@@ -1,24 +1,23 @@
 -- Laws of fresh tables: the rows filled one after the other, and what they hold.
 use mathlib.Core.Path.{_≡_, refl, sym, ap, ap₂, _∙_, subst}
 use mathlib.Core.Bool.{Bool, true, false}
-use mathlib.Core.List.{List, [], _∷_, map}
+use mathlib.Core.List.{List, [], map}
 use Prim.Native.Nat.{ℕ, zero, suc, _+_, _^_, _<_}
 use native.Mathlib.Decide.{ℕ-discrete}
-use native.Mathlib.Nat.{le-of-suc-le-suc, not-suc-le-zero}
+use native.Mathlib.Nat.{not-suc-le-zero}
 use native.Mathlib.Omega.{arith}
 use lib.Dec.{eqb, lit<}
 use lib.ListN.{length, getD, set, replicate, length-set, length-replicate, getD-replicate}
 use lib.Seq.{getD-set-same, getD-set-other, ext-getD}
 use borrow.Author.Tests.{eq-eqb, ne-eqb}
 use Rattle.rules.specs.Choice.{if_then_else_}
-use Rattle.rules.specs.Names.{harts, STARTED, STOPPED}
+use Rattle.rules.specs.Names.{STARTED, STOPPED}
 use Rattle.rules.specs.Tables.{idle, blank, fresh}
 use Rattle.rules.specs.declared.platform.Platform.{Platform}
 use Rattle.rules.specs.declared.records.Hart.{Hart}
-use Rattle.rules.specs.declared.records.Counter.{Counter}
 use Rattle.rules.proofs.Logic.{if-true, if-false, below-or}
 use Rattle.store.specs.Rows.{byte, stateIn, hartIn, counterOf, counterIn, table, countersIn, Fit}
-use Rattle.store.specs.Seen.{seen, Shaped, makeShaped, Holds, freshRow, freshRows}
+use Rattle.store.specs.Seen.{seen, makeShaped, Holds, freshRow, freshRows}
 use Rattle.store.proofs.ListLaws.{table-map, table-length, table-at}
 use Rattle.store.proofs.ViewLaws.{tables}
 
@@ -37,7 +36,8 @@ module _ (boot : ℕ) (t : List (List ℕ)) where
     size = length-set t n _ ∙ f .size;
     rows = λ h m. below-or h n
         (λ q. getD-set-other t n h _ [] (λ e. omega arith) ∙ f .rows h q)
-        (λ q. subst (λ (j : ℕ). getD (set t n (freshRow (eqb n boot))) j [] ≡ freshRow (eqb j boot)) (let z : n ≡ h = omega arith in z)
+        (λ q. subst (λ (j : ℕ). getD (set t n (freshRow (eqb n boot))) j [] ≡ freshRow (eqb j boot))
+        (let z : n ≡ h = omega arith in z)
         (getD-set-same t n _ [] (omega (arith, f .size))));
   }
 
@@ -80,16 +80,20 @@ module _ (boot : ℕ) (b : boot < 128) where
   begun-at i l =
       elim (ℕ-discrete i boot) [
         | yes z ↦ if-true _ _ (eq-eqb i boot z)
-            ∙ sym (ap (λ (j : ℕ). getD begun j (idle STOPPED)) z ∙ getD-set-same (replicate 128 (idle STOPPED)) boot (idle STARTED) (idle STOPPED) (omega (arith, length-replicate 128 (idle STOPPED))))
+            ∙ sym (ap (λ (j : ℕ). getD begun j (idle STOPPED)) z
+            ∙ getD-set-same (replicate 128 (idle STOPPED)) boot (idle STARTED) (idle STOPPED)
+            (omega (arith, length-replicate 128 (idle STOPPED))))
         | no z ↦ if-false _ _ (ne-eqb i boot z)
-            ∙ sym (getD-set-other (replicate 128 (idle STOPPED)) boot i (idle STARTED) (idle STOPPED) z ∙ getD-replicate 128 i (idle STOPPED) (idle STOPPED) l)
+            ∙ sym (getD-set-other (replicate 128 (idle STOPPED)) boot i (idle STARTED) (idle STOPPED) z
+            ∙ getD-replicate 128 i (idle STOPPED) (idle STOPPED) l)
       ]
 
   harts-begun : map hartIn (freshRows boot) ≡ begun
   harts-begun =
       table-map hartIn 128 _
       ∙ ext-getD (idle STOPPED) (table 128 (λ h. hartIn (freshRow (eqb h boot)))) begun
-      (table-length 128 _ ∙ sym (length-set (replicate 128 (idle STOPPED)) boot (idle STARTED) ∙ length-replicate 128 (idle STOPPED)))
+      (table-length 128 _
+      ∙ sym (length-set (replicate 128 (idle STOPPED)) boot (idle STARTED) ∙ length-replicate 128 (idle STOPPED)))
       (λ i l.
       let m : i < 128 = omega (arith, table-length 128 (λ h. hartIn (freshRow (eqb h boot)))) in
       table-at 128 _ (idle STOPPED) i m ∙ fresh-hart (eqb i boot) ∙ begun-at i m)

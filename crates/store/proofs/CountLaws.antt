@@ -2,14 +2,14 @@
 --   countedOne r i e     the row with counter i counted, if it runs and has the code e
 --   countedTo n r e      the row with its first n counters counted
 use mathlib.Core.Path.{_≡_, refl, sym, ap, ap₂, _∙_, subst}
-use mathlib.Core.Bool.{Bool, true, false, _&&_}
-use mathlib.Core.List.{List, [], map}
+use mathlib.Core.Bool.{true, false, _&&_}
+use mathlib.Core.List.{List, map}
 use mathlib.Core.Logic.{⊎-elim}
 use Prim.Native.Nat.{ℕ, zero, suc, _+_, _/_, _%_, _^_, _-_, _<_, _≤_}
 use native.Mathlib.Nat.{le-of-suc-le-suc, not-suc-le-zero, eq-or-lt-of-le, mod-lt}
 use native.Mathlib.Omega.{arith}
 use lib.Dec.{eqb, lit<}
-use lib.ListN.{getD, set, length, length-set}
+use lib.ListN.{getD, set, length}
 use lib.Seq.{getD-set-same, getD-set-other}
 use borrow.Author.Tests.{eqb-true, eqb-false, eq-eqb, ne-eqb}
 use Rattle.rules.specs.Choice.{if_then_else_}
@@ -60,15 +60,18 @@ module _ (b e : ℕ) where
   counted-of v =
       kinds b (counted e (counterOf b v) ≡ counterOf b (next v))
       (λ q. let o = of-none b v q in
-      ap (counted e) o ∙ stays (record { mapped = false; code = 0; running = false; value = v }) refl ∙ sym o ∙ ap (counterOf b) (sym (miss v (omega arith))))
+      ap (counted e) o ∙ stays (record { mapped = false; code = 0; running = false; value = v }) refl ∙ sym o
+      ∙ ap (counterOf b) (sym (miss v (omega arith))))
       (λ l m. let o = of-stopped b v l m in
-      ap (counted e) o ∙ stays (record { mapped = true; code = b - 1; running = false; value = v }) refl ∙ sym o ∙ ap (counterOf b) (sym (miss v m)))
+      ap (counted e) o ∙ stays (record { mapped = true; code = b - 1; running = false; value = v }) refl ∙ sym o
+      ∙ ap (counterOf b) (sym (miss v m)))
       (λ l. hit v l)
 
 module _ (r : List ℕ) (e : ℕ) where
   one-fit : (i : ℕ) → Fit r → Fit (countedOne r i e)
   unfolding countedOne
-  one-fit i k = if-both Fit (eqb (byte (getD r 3 0) i) (e + 23)) (λ q. fit-set r (4 + i) _ (mod-lt _ (lit< tt)) k) (λ q. k)
+  one-fit i k =
+      if-both Fit (eqb (byte (getD r 3 0) i) (e + 23)) (λ q. fit-set r (4 + i) _ (mod-lt _ (lit< tt)) k) (λ q. k)
 
   one-other : (i k : ℕ) → (k ≡ 4 + i → ⊥) → getD (countedOne r i e) k 0 ≡ getD r k 0
   unfolding countedOne
@@ -76,11 +79,13 @@ module _ (r : List ℕ) (e : ℕ) where
       if-both (λ (l : List ℕ). getD l k 0 ≡ getD r k 0) (eqb (byte (getD r 3 0) i) (e + 23))
       (λ q. getD-set-other r (4 + i) k _ 0 n) (λ q. refl)
 
-  one-same : (i : ℕ) → 4 + i < length r → getD (countedOne r i e) (4 + i) 0 ≡ next (byte (getD r 3 0) i) e (getD r (4 + i) 0)
+  one-same : (i : ℕ) → 4 + i < length r
+      → getD (countedOne r i e) (4 + i) 0 ≡ next (byte (getD r 3 0) i) e (getD r (4 + i) 0)
   unfolding countedOne next
   one-same i l =
       by-cases (eqb (byte (getD r 3 0) i) (e + 23))
-      (λ q. ap (λ (l : List ℕ). getD l (4 + i) 0) (if-true _ _ q) ∙ getD-set-same r (4 + i) _ 0 l ∙ sym (if-true _ _ q))
+      (λ q. ap (λ (l : List ℕ). getD l (4 + i) 0) (if-true _ _ q) ∙ getD-set-same r (4 + i) _ 0 l
+      ∙ sym (if-true _ _ q))
       (λ q. ap (λ (l : List ℕ). getD l (4 + i) 0) (if-false _ _ q) ∙ sym (if-false _ _ q))
 
 -- ----- the first n counters
@@ -94,25 +99,36 @@ module _ (r : List ℕ) (e : ℕ) where
   to-other : (n k : ℕ) → ((i : ℕ) → i < n → k ≡ 4 + i → ⊥) → getD (countedTo n r e) k 0 ≡ getD r k 0
   unfolding countedTo
   to-other zero k f = refl
-  to-other (suc n) k f = one-other (countedTo n r e) e n k (f n (omega arith)) ∙ to-other n k (λ i l. f i (omega arith))
+  to-other (suc n) k f =
+      one-other (countedTo n r e) e n k (f n (omega arith)) ∙ to-other n k (λ i l. f i (omega arith))
 
-  to-value : (n i : ℕ) → i < n → 4 + i < length r → Fit r → getD (countedTo n r e) (4 + i) 0 ≡ next (byte (getD r 3 0) i) e (getD r (4 + i) 0)
+  to-value : (n i : ℕ) → i < n → 4 + i < length r → Fit r
+      → getD (countedTo n r e) (4 + i) 0 ≡ next (byte (getD r 3 0) i) e (getD r (4 + i) 0)
   unfolding countedTo
   to-value zero i l m k = absurd (not-suc-le-zero l)
   to-value (suc n) i l m k =
       ⊎-elim
-      (λ q. subst (λ (j : ℕ). getD (countedOne (countedTo n r e) j e) (4 + i) 0 ≡ next (byte (getD r 3 0) i) e (getD r (4 + i) 0)) q
+      (λ q. subst
+      (λ (j : ℕ). getD (countedOne (countedTo n r e) j e) (4 + i) 0 ≡ next (byte (getD r 3 0) i) e
+      (getD r (4 + i) 0)) q
       (one-same (countedTo n r e) e i (omega (arith, to-fit n k .size, k .size))
-      ∙ ap₂ (λ (a b : ℕ). next (byte a i) e b) (to-other n 3 (λ j p z. omega arith)) (to-other n (4 + i) (λ j p z. omega arith))))
+      ∙ ap₂ (λ (a b : ℕ). next (byte a i) e b) (to-other n 3 (λ j p z. omega arith))
+      (to-other n (4 + i) (λ j p z. omega arith))))
       (λ p. one-other (countedTo n r e) e n (4 + i) (λ q. omega arith) ∙ to-value n i p m k)
       (eq-or-lt-of-le (le-of-suc-le-suc l))
 
   pub counted-held : Fit r → Held (countedTo 8 r e) (hartIn r) (map (counted e) (countersIn r))
   unfolding hartIn countersIn counterIn
   counted-held k = record {
-    record′ = rw (to-other 8 0 (λ j l q. omega arith), to-other 8 1 (λ j l q. omega arith), to-other 8 2 (λ j l q. omega arith));
+    hart =
+        rw (
+          to-other 8 0 (λ j l q. omega arith),
+          to-other 8 1 (λ j l q. omega arith),
+          to-other 8 2 (λ j l q. omega arith),
+        );
     own = table-ext 8 (counterIn (countedTo 8 r e)) (λ i. counted e (counterIn r i))
-        (λ i l. ap₂ counterOf (ap (λ (w : ℕ). byte w i) (to-other 8 3 (λ j p q. omega arith))) (to-value 8 i l (omega (arith, k .size)) k)
+        (λ i l. ap₂ counterOf (ap (λ (w : ℕ). byte w i) (to-other 8 3 (λ j p q. omega arith)))
+        (to-value 8 i l (omega (arith, k .size)) k)
         ∙ sym (counted-of (byte (getD r 3 0) i) e (getD r (4 + i) 0)))
         ∙ sym (table-map (counted e) 8 (counterIn r));
     fit = to-fit 8 k;
@@ -127,9 +143,11 @@ start r e = (refl, sym (past-none (getD r 3 0)))
 module _ (r : List ℕ) (i e w : ℕ) (q : w ≡ past (getD r 3 0) i) where
   byte-now : byte (getD (countedTo i r e) 3 0) i ≡ w % 256
   byte-now =
-      ap (λ (v : ℕ). byte v i) (to-other r e i 3 (λ j p z. omega arith)) ∙ byte-past (getD r 3 0) i ∙ ap (λ (n : ℕ). n % 256) (sym q)
+      ap (λ (v : ℕ). byte v i) (to-other r e i 3 (λ j p z. omega arith)) ∙ byte-past (getD r 3 0) i
+      ∙ ap (λ (n : ℕ). n % 256) (sym q)
 
-  pub turn-hit : w % 256 ≡ e + 23 → countedTo (suc i) r e ≡ set (countedTo i r e) (4 + i) ((getD (countedTo i r e) (4 + i) 0 + 1) % 2 ^ 64)
+  pub turn-hit : w % 256 ≡ e + 23
+      → countedTo (suc i) r e ≡ set (countedTo i r e) (4 + i) ((getD (countedTo i r e) (4 + i) 0 + 1) % 2 ^ 64)
   unfolding countedTo countedOne
   turn-hit z = if-true _ _ (eq-eqb _ _ (byte-now ∙ z))
 

@@ -2,11 +2,11 @@
 --   withCounter r i c    the row r with counter i put anew
 use mathlib.Core.Path.{_≡_, refl, sym, ap, ap₂, _∙_, subst}
 use mathlib.Core.Bool.{Bool, true, false}
-use mathlib.Core.List.{List, []}
+use mathlib.Core.List.{List}
 use Prim.Native.Nat.{ℕ, _+_, _^_, _-_, _<_, _≤_}
 use native.Mathlib.Decide.{ℕ-discrete}
 use native.Mathlib.Omega.{arith}
-use lib.ListN.{getD, set, length, length-set}
+use lib.ListN.{getD, set, length-set}
 use lib.Seq.{getD-set-same, getD-set-other, ext-getD}
 use Rattle.rules.specs.Choice.{if_then_else_}
 use Rattle.rules.specs.Tables.{blank, CounterFine}
@@ -25,15 +25,18 @@ module _ (c : Counter) (k : CounterFine c) where
       go : (m r : Bool) → c .mapped ≡ m → c .running ≡ r → counterOf (controlOf c) (c .value) ≡ c
       go true true p q =
           rw (p, q) (of-running (c .code + 23) (c .value) (omega arith)
-          ∙ ap (λ (n : ℕ). record { mapped = true; code = n; running = true; value = c .value }) (let z : c .code + 23 - 23 ≡ c .code = omega arith in z))
+          ∙ ap (λ (n : ℕ). record { mapped = true; code = n; running = true; value = c .value })
+          (let z : c .code + 23 - 23 ≡ c .code = omega arith in z))
       go true false p q =
           let l = k .codes p in
           rw (p, q) (of-stopped (c .code + 1) (c .value) (omega arith) (omega arith)
-          ∙ ap (λ (n : ℕ). record { mapped = true; code = n; running = false; value = c .value }) (let z : c .code + 1 - 1 ≡ c .code = omega arith in z))
+          ∙ ap (λ (n : ℕ). record { mapped = true; code = n; running = false; value = c .value })
+          (let z : c .code + 1 - 1 ≡ c .code = omega arith in z))
       go false true p q = absurd (false-true (sym p ∙ k .runs q))
       go false false p q =
           rw (p, q) (of-none 0 (c .value) refl
-          ∙ ap (λ (n : ℕ). record { mapped = false; code = n; running = false; value = c .value }) (sym (k .canonical p)))
+          ∙ ap (λ (n : ℕ). record { mapped = false; code = n; running = false; value = c .value })
+          (sym (k .canonical p)))
 
   pub control-small : controlOf c ≤ 44
   unfolding if_then_else_
@@ -66,7 +69,9 @@ module _ (r : List ℕ) (i : ℕ) (c : Counter) (l : i < 8) (n : Fit r) (k : Cou
 
   control : getD r′ 3 0 ≡ w′
   unfolding withCounter
-  control = getD-set-other (set r 3 w′) (4 + i) 3 (c .value) 0 (λ e. omega arith) ∙ getD-set-same r 3 w′ 0 (omega (arith, n .size))
+  control =
+      getD-set-other (set r 3 w′) (4 + i) 3 (c .value) 0 (λ e. omega arith)
+      ∙ getD-set-same r 3 w′ 0 (omega (arith, n .size))
 
   value : getD r′ (4 + i) 0 ≡ c .value
   unfolding withCounter
@@ -75,11 +80,16 @@ module _ (r : List ℕ) (i : ℕ) (c : Counter) (l : i < 8) (n : Fit r) (k : Cou
   hart-same : hartIn r′ ≡ hartIn r
   unfolding hartIn
   hart-same =
-      rw (elsewhere 0 (λ e. omega arith) (λ e. omega arith), elsewhere 1 (λ e. omega arith) (λ e. omega arith), elsewhere 2 (λ e. omega arith) (λ e. omega arith))
+      rw (
+        elsewhere 0 (λ e. omega arith) (λ e. omega arith),
+        elsewhere 1 (λ e. omega arith) (λ e. omega arith),
+        elsewhere 2 (λ e. omega arith) (λ e. omega arith),
+      )
 
   counter-new : counterIn r′ i ≡ c
   unfolding counterIn
-  counter-new = ap₂ counterOf (ap (λ (a : ℕ). byte a i) control ∙ byte-with (controlOf c) fits i w) value ∙ control-back c k
+  counter-new =
+      ap₂ counterOf (ap (λ (a : ℕ). byte a i) control ∙ byte-with (controlOf c) fits i w) value ∙ control-back c k
 
   counter-old : (j : ℕ) → (j ≡ i → ⊥) → counterIn r′ j ≡ counterIn r j
   unfolding counterIn
@@ -90,21 +100,25 @@ module _ (r : List ℕ) (i : ℕ) (c : Counter) (l : i < 8) (n : Fit r) (k : Cou
   counters-put : countersIn r′ ≡ set (countersIn r) i c
   unfolding countersIn
   counters-put =
-      ext-getD blank (countersIn r′) (set (countersIn r) i c) (eight r′ ∙ sym (length-set (countersIn r) i c ∙ eight r))
+      ext-getD blank (countersIn r′) (set (countersIn r) i c) (eight r′
+      ∙ sym (length-set (countersIn r) i c ∙ eight r))
       (λ j m.
       let b : j < 8 = omega (arith, eight r′) in
       table-at 8 (counterIn r′) blank j b ∙
       elim (ℕ-discrete j i) [
         | yes z ↦ subst (λ (a : ℕ). counterIn r′ a ≡ getD (set (countersIn r) i c) a blank) (sym z)
             (counter-new ∙ sym (getD-set-same (countersIn r) i c blank (omega (arith, eight r))))
-        | no z ↦ counter-old j z ∙ sym (getD-set-other (countersIn r) i j c blank z ∙ table-at 8 (counterIn r) blank j b)
+        | no z ↦ counter-old j z
+            ∙ sym (getD-set-other (countersIn r) i j c blank z ∙ table-at 8 (counterIn r) blank j b)
       ])
 
   pub counter-held : c .value < 2 ^ 64 → Held r′ (hartIn r) (set (countersIn r) i c)
   unfolding withCounter
   counter-held v =
       record {
-        record′ = hart-same;
+        hart = hart-same;
         own = counters-put;
-        fit = fit-set (set r 3 w′) (4 + i) (c .value) v (fit-set r 3 w′ (with-small (controlOf c) fits w i l (n .small 3)) n);
+        fit =
+            fit-set (set r 3 w′) (4 + i) (c .value) v
+            (fit-set r 3 w′ (with-small (controlOf c) fits w i l (n .small 3)) n);
       }

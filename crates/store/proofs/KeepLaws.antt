@@ -5,7 +5,7 @@ use mathlib.Core.List.{List, [], _∷_, List·Memᴰ, List·Memᴰ·head}
 use mathlib.Core.Option.{Option, none, some}
 use Prim.Native.Nat.{ℕ, _<_, _≤_}
 use native.Mathlib.Omega.{arith}
-use lib.ListN.{length, getD, set, length-map}
+use lib.ListN.{length, getD, length-map}
 use lib.Seq.{getD-set-same, getD-set-other, set-getD}
 use Rattle.rules.specs.Names.{harts, counters, STOPPED}
 use Rattle.rules.specs.Sets.{bit, keep, first}
@@ -57,11 +57,13 @@ module _ (s : Tables) (h : ℕ) where
   -- what was there put back
   pub own-put-back : putOwn s h (ownAt s h) ≡ s
   unfolding ownAt
-  own-put-back = ap (λ (cs : List (List Counter)). record { harts = s .harts; counters = cs }) (set-getD (s .counters) h [])
+  own-put-back =
+      ap (λ (cs : List (List Counter)). record { harts = s .harts; counters = cs }) (set-getD (s .counters) h [])
 
   pub hart-put-back : putHart s h (hartAt (s .harts) h) ≡ s
   unfolding hartAt
-  hart-put-back = ap (λ (xs : List Hart). record { harts = xs; counters = s .counters }) (set-getD (s .harts) h (idle STOPPED))
+  hart-put-back =
+      ap (λ (xs : List Hart). record { harts = xs; counters = s .counters }) (set-getD (s .harts) h (idle STOPPED))
 
 -- ----- the match of a set: a number below 8 is the counter chosen, and 8 is none
 
@@ -82,4 +84,5 @@ module _ (flags : ℕ) (cs : List Counter) (s n : ℕ) (q : n ≡ numberOf (chos
   unfolding chosen
   match-none l =
       number-none (keep (λ i. bit flags 0 || notRunning cs i) (setOf s))
-      (λ i m. those-only (bit s) counters i (keep-only (λ i. bit flags 0 || notRunning cs i) (setOf s) m .0) .0) (omega (arith, q))
+      (λ i m. those-only (bit s) counters i (keep-only (λ i. bit flags 0 || notRunning cs i) (setOf s) m .0) .0)
+      (omega (arith, q))

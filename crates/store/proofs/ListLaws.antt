@@ -20,14 +20,17 @@ getD-any [] i d e h = absurd (not-suc-le-zero h)
 getD-any (x ∷ l) zero d e h = refl
 getD-any (x ∷ l) (suc i) d e h = getD-any l i d e (le-of-suc-le-suc h)
 
-pub getD-map-in : {A B : Type 0} (f : A → B) (l : List A) (i : ℕ) (d : A) (e : B) → i < length l → getD (map f l) i e ≡ f (getD l i d)
+pub getD-map-in
+    : {A B : Type 0} (f : A → B) (l : List A) (i : ℕ) (d : A) (e : B) → i < length l
+    → getD (map f l) i e ≡ f (getD l i d)
 getD-map-in f l i d e h = getD-any (map f l) i e (f d) (rw (length-map l f) h) ∙ List·getD-map f l i d
 
 module _ {A : Type 0} where
   pub table-ext : (n : ℕ) (f g : ℕ → A) → ((i : ℕ) → i < n → f i ≡ g i) → table n f ≡ table n g
   unfolding table
   table-ext zero f g e = refl
-  table-ext (suc n) f g e = ap₂ (λ (l : List A) (x : A). l ++ (x ∷ [])) (table-ext n f g (λ i h. e i (omega arith))) (e n (omega arith))
+  table-ext (suc n) f g e =
+      ap₂ (λ (l : List A) (x : A). l ++ (x ∷ [])) (table-ext n f g (λ i h. e i (omega arith))) (e n (omega arith))
 
   pub table-map : {B : Type 0} (k : A → B) (n : ℕ) (f : ℕ → A) → map k (table n f) ≡ table n (λ i. k (f i))
   unfolding table

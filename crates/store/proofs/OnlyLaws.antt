@@ -1,12 +1,11 @@
 -- The view forgets nothing: rows that hold the same tables are the same rows.
 use mathlib.Core.Path.{_≡_, refl, sym, ap, _∙_, subst}
-use mathlib.Core.Bool.{Bool, true, false}
 use mathlib.Core.List.{List, []}
-use Prim.Native.Nat.{ℕ, zero, suc, _+_, _/_, _%_, _^_, _-_, _<_, _≤_}
+use Prim.Native.Nat.{ℕ, zero, suc, _+_, _%_, _^_, _-_, _<_}
 use native.Mathlib.Nat.{mod-lt}
 use native.Mathlib.Omega.{arith}
-use lib.Dec.{eqb, ltb, lit<}
-use lib.ListN.{getD, length}
+use lib.Dec.{eqb, lit<}
+use lib.ListN.{getD}
 use lib.Seq.{ext-getD}
 use Rattle.rules.specs.Tables.{Tables, hartAt, ownAt, counterAt}
 use Rattle.rules.specs.declared.records.Hart.{Hart}
@@ -77,19 +76,23 @@ module _ (a b : List ℕ) (s : Fit a) (t : Fit b) (e : hartIn a ≡ hartIn b) (f
   pair : (k : ℕ) → k < 8 → (byte (getD a 3 0) k ≡ byte (getD b 3 0) k) × (getD a (4 + k) 0 ≡ getD b (4 + k) 0)
   unfolding counterIn
   pair k l =
-      let g : counterIn a k ≡ counterIn b k = sym (counter-at a k l) ∙ ap (λ (cs : List Counter). counterAt cs k) f ∙ counter-at b k l in
+      let g : counterIn a k ≡ counterIn b k = sym (counter-at a k l) ∙ ap (λ (cs : List Counter). counterAt cs k) f
+      ∙ counter-at b k l in
       counter-one (byte (getD a 3 0) k) (getD a (4 + k) 0) (byte (getD b 3 0) k) (getD b (4 + k) 0) g
 
   word : (i : ℕ) → i < 12 → getD a i 0 ≡ getD b i 0
   unfolding hartIn
   word zero l =
-      state-one (getD a 0 0) (getD b 0 0) (s .small 0) (t .small 0) (ap (λ (x : Hart). x .state) e) (ap (λ (x : Hart). x .retentive) e)
+      state-one (getD a 0 0) (getD b 0 0) (s .small 0) (t .small 0) (ap (λ (x : Hart). x .state) e)
+      (ap (λ (x : Hart). x .retentive) e)
   word (suc zero) l = ap (λ (x : Hart). x .address) e
   word (suc (suc zero)) l = ap (λ (x : Hart). x .opaque) e
   word (suc (suc (suc zero))) l =
-      bytes-one 8 (getD a 3 0) (getD b 3 0) (past-all (getD a 3 0) (s .small 3) ∙ sym (past-all (getD b 3 0) (t .small 3))) (λ i m. pair i m .0)
+      bytes-one 8 (getD a 3 0) (getD b 3 0) (past-all (getD a 3 0) (s .small 3)
+      ∙ sym (past-all (getD b 3 0) (t .small 3))) (λ i m. pair i m .0)
   word (suc (suc (suc (suc j)))) l =
-      subst (λ (i : ℕ). getD a i 0 ≡ getD b i 0) (let z : 4 + j ≡ suc (suc (suc (suc j))) = omega arith in z) (pair j (omega arith) .1)
+      subst (λ (i : ℕ). getD a i 0 ≡ getD b i 0) (let z : 4 + j ≡ suc (suc (suc (suc j))) = omega arith in
+      z) (pair j (omega arith) .1)
 
 pub only-one : (a b : List (List ℕ)) → Shaped a → Shaped b → seen a ≡ seen b → a ≡ b
 only-one a b s t e =

@@ -1,20 +1,17 @@
 -- Laws of a row: a record put into it, a counter put into it, and the three kinds of control byte.
-use mathlib.Core.Path.{_≡_, refl, sym, ap, ap₂, _∙_, subst}
-use mathlib.Core.Bool.{Bool, true, false, not, _&&_}
+use mathlib.Core.Path.{_≡_, ap, ap₂, _∙_}
+use mathlib.Core.Bool.{Bool, true, false}
 use mathlib.Core.List.{List, [], _∷_}
-use Prim.Native.Nat.{ℕ, zero, suc, _+_, _*_, _/_, _%_, _^_, _-_, _<_, _≤_}
-use native.Mathlib.Decide.{ℕ-discrete}
+use Prim.Native.Nat.{ℕ, zero, suc, _+_, _*_, _%_, _^_, _-_, _<_, _≤_}
 use native.Mathlib.Omega.{arith}
-use lib.Dec.{eqb, leb, ltb}
+use lib.Dec.{eqb, ltb}
 use lib.ListN.{getD, set, length, length-set}
-use lib.Seq.{getD-set-same, getD-set-other, ext-getD}
-use borrow.Author.Tests.{leb-true, eqb-true, eqb-false, eq-eqb, ne-eqb, lt-ltb, le-ltb, ltb-true, ltb-false}
-use Rattle.rules.specs.Choice.{if_then_else_}
+use lib.Seq.{getD-set-other}
+use borrow.Author.Tests.{eqb-true, eqb-false, eq-eqb, ne-eqb, lt-ltb, le-ltb, ltb-true, ltb-false}
 use Rattle.rules.specs.Tables.{blank, counterAt}
 use Rattle.rules.specs.declared.records.Hart.{Hart}
-use Rattle.rules.specs.declared.records.Counter.{Counter}
-use Rattle.rules.proofs.Logic.{if-true, if-false, by-cases, false-true, and-l, and-r}
-use Rattle.store.specs.Rows.{byte, stateIn, noteOf, hartIn, counterOf, counterIn, table, countersIn, Fit, Held}
+use Rattle.rules.proofs.Logic.{if-true, if-false, by-cases}
+use Rattle.store.specs.Rows.{byte, stateIn, noteOf, hartIn, counterOf, counterIn, countersIn, Fit, Held}
 use Rattle.store.proofs.ListLaws.{table-ext, table-at, table-length}
 
 -- ----- words stay words
@@ -81,14 +78,16 @@ counters-with : (r : List ℕ) (x : Hart) → countersIn (withHart r x) ≡ coun
 unfolding countersIn counterIn
 counters-with r x =
     table-ext 8 (counterIn (withHart r x)) (counterIn r)
-    (λ i h. ap₂ counterOf (ap (λ (w : ℕ). byte w i) (with-rest r x 3 (omega arith))) (with-rest r x (4 + i) (omega arith)))
+    (λ i h. ap₂ counterOf (ap (λ (w : ℕ). byte w i) (with-rest r x 3 (omega arith)))
+    (with-rest r x (4 + i) (omega arith)))
 
-pub hart-held : (r : List ℕ) (x : Hart) → Fit r → x .state ≤ 6 → x .address < 2 ^ 64 → x .opaque < 2 ^ 64 → Held (withHart r x) x (countersIn r)
+pub hart-held : (r : List ℕ) (x : Hart) → Fit r → x .state ≤ 6 → x .address < 2 ^ 64 → x .opaque < 2 ^ 64
+    → Held (withHart r x) x (countersIn r)
 unfolding withHart
 hart-held r x k s a o =
     let w = 2 * (x .state + 1) + noteOf (x .retentive) in
     record {
-      record′ = hart-back r x (k .size);
+      hart = hart-back r x (k .size);
       own = counters-with r x;
       fit = fit-set (set (set r 0 w) 1 (x .address)) 2 (x .opaque) o
           (fit-set (set r 0 w) 1 (x .address) a (fit-set r 0 w (omega (arith, note-small (x .retentive))) k));
@@ -101,11 +100,13 @@ module _ (b : ℕ) where
   unfolding counterOf
   of-none v e = if-true _ _ (eq-eqb b 0 e)
 
-  pub of-stopped : (v : ℕ) → 0 < b → b < 23 → counterOf b v ≡ record { mapped = true; code = b - 1; running = false; value = v }
+  pub of-stopped : (v : ℕ) → 0 < b → b < 23
+      → counterOf b v ≡ record { mapped = true; code = b - 1; running = false; value = v }
   unfolding counterOf
   of-stopped v l m = if-false _ _ (ne-eqb b 0 (λ e. omega arith)) ∙ if-true _ _ (lt-ltb b 23 m)
 
-  pub of-running : (v : ℕ) → 23 ≤ b → counterOf b v ≡ record { mapped = true; code = b - 23; running = true; value = v }
+  pub of-running : (v : ℕ) → 23 ≤ b
+      → counterOf b v ≡ record { mapped = true; code = b - 23; running = true; value = v }
   unfolding counterOf
   of-running v l = if-false _ _ (ne-eqb b 0 (λ e. omega arith)) ∙ if-false _ _ (le-ltb b 23 l)
 

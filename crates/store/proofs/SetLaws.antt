@@ -3,18 +3,17 @@ use mathlib.Core.Path.{_≡_, refl, sym, ap, ap₂, _∙_, subst}
 use mathlib.Core.Bool.{Bool, true, false, not, _&&_, _||_, and-true, and-assoc, or-true, or-false}
 use mathlib.Core.List.{List, [], _∷_, _++_}
 use mathlib.Core.Logic.{_⊎_, inl, inr, ⊎-elim}
-use mathlib.Core.Option.{Option, none, some}
-use Prim.Native.Nat.{ℕ, zero, suc, _+_, _*_, _-_, _/_, _%_, _^_, _<_, _≤_}
-use native.Mathlib.Nat.{mod-lt, pow-suc, pow-succ'}
-use native.Mathlib.Numerals.{add-one}
+use mathlib.Core.Option.{some}
+use Prim.Native.Nat.{ℕ, zero, suc, _+_, _*_, _-_, _/_, _%_, _^_, _<_}
+use native.Mathlib.Nat.{mod-lt, pow-suc}
 use native.Mathlib.Omega.{arith}
 use lib.Bits.{bitAnd, bitOr, or-add-and, and-le-l, and-le-r, or-lt}
 use lib.Count.{trailingZeros, under}
 use lib.Dec.{eqb, lit<}
 use borrow.Author.Tests.{eq-eqb, ne-eqb, not-true}
 use Rattle.rules.specs.Choice.{if_then_else_}
-use Rattle.rules.specs.Sets.{bit, every, those, all, first, keep}
-use Rattle.rules.proofs.Logic.{if-true, if-false, if-both, by-cases, below-or, false-true, clash, and-of, same-test, or-of, or-l}
+use Rattle.rules.specs.Sets.{bit, every, those, all, first}
+use Rattle.rules.proofs.Logic.{if-true, if-false, by-cases, below-or, clash}
 use Rattle.rules.proofs.SetLaws.{every-at, every-ext}
 use Rattle.rules.proofs.platform.BitLaws.{bit-first, bit-next, bit-and, bit-or, subset-word}
 use Rattle.store.specs.Sets.{maskOf, numberOf}
@@ -43,8 +42,10 @@ mask-bit zero f i l = absurd (omega arith)
 mask-bit (suc n) f zero l =
     bit-first _
     ∙ by-cases (f 0)
-    (λ e. ap (λ (x : ℕ). eqb ((x + 2 * maskOf n (λ i. f (suc i))) % 2) 1) (if-true _ _ e) ∙ eq-eqb _ _ (odd (maskOf n (λ i. f (suc i)))) ∙ sym e)
-    (λ e. ap (λ (x : ℕ). eqb ((x + 2 * maskOf n (λ i. f (suc i))) % 2) 1) (if-false _ _ e) ∙ ne-eqb _ _ (λ q. even (maskOf n (λ i. f (suc i))) q) ∙ sym e)
+    (λ e. ap (λ (x : ℕ). eqb ((x + 2 * maskOf n (λ i. f (suc i))) % 2) 1) (if-true _ _ e)
+    ∙ eq-eqb _ _ (odd (maskOf n (λ i. f (suc i)))) ∙ sym e)
+    (λ e. ap (λ (x : ℕ). eqb ((x + 2 * maskOf n (λ i. f (suc i))) % 2) 1) (if-false _ _ e)
+    ∙ ne-eqb _ _ (λ q. even (maskOf n (λ i. f (suc i))) q) ∙ sym e)
   where
     odd : (m : ℕ) → (1 + 2 * m) % 2 ≡ 1
     odd m = omega arith
@@ -52,7 +53,8 @@ mask-bit (suc n) f zero l =
     even : (m : ℕ) → (0 + 2 * m) % 2 ≡ 1 → ⊥
     even m e = omega arith
 mask-bit (suc n) f (suc i) l =
-    bit-next _ i ∙ ap (λ (x : ℕ). bit x i) (halved (f 0) (maskOf n (λ i. f (suc i)))) ∙ mask-bit n (λ i. f (suc i)) i (omega arith)
+    bit-next _ i ∙ ap (λ (x : ℕ). bit x i) (halved (f 0) (maskOf n (λ i. f (suc i))))
+    ∙ mask-bit n (λ i. f (suc i)) i (omega arith)
   where
     halved : (b : Bool) (m : ℕ) → (unit b + 2 * m) / 2 ≡ m
     halved b m = ⊎-elim (λ e. omega (arith, e)) (λ e. omega (arith, e)) (one-or-none b)
@@ -85,7 +87,8 @@ mask-both : (n : ℕ) (f : ℕ → Bool) → maskOf n f + maskOf n (λ i. not (f
 unfolding maskOf
 mask-both zero f = refl
 mask-both (suc n) f =
-    not-one (f 0) n (maskOf n (λ i. f (suc i))) (maskOf n (λ i. not (f (suc i)))) (mask-both n (λ i. f (suc i))) (pow-suc 2 n)
+    not-one (f 0) n (maskOf n (λ i. f (suc i))) (maskOf n (λ i. not (f (suc i)))) (mask-both n (λ i. f (suc i)))
+    (pow-suc 2 n)
 
 pub mask-not : (n : ℕ) (f : ℕ → Bool) → 2 ^ n - 1 - maskOf n f ≡ maskOf n (λ i. not (f i))
 mask-not n f = omega (arith, mask-both n f)
@@ -115,7 +118,8 @@ low-bit : (s i : ℕ) → i < 8 → bit (bitAnd s 255) i ≡ bit s i
 low-bit s i l = bit-and s 255 i ∙ ap (λ (b : Bool). bit s i && b) (ones-bit i l) ∙ and-true (bit s i)
 
 -- each of the low eight bits of s is one of the word of f
-pub within-is : (s : ℕ) (f : ℕ → Bool) → eqb (bitAnd (bitAnd s 255) (maskOf 8 f)) (bitAnd s 255) ≡ all f (those 8 (bit s))
+pub within-is : (s : ℕ) (f : ℕ → Bool)
+    → eqb (bitAnd (bitAnd s 255) (maskOf 8 f)) (bitAnd s 255) ≡ all f (those 8 (bit s))
 within-is s f =
     subset-word 8 (bitAnd s 255) (maskOf 8 f) (omega (arith, and-le-r s 255))
     ∙ every-ext _ _ 8 (λ i l. ap₂ (λ (a b : Bool). not a || b) (low-bit s i l) (mask-bit 8 f i l))
@@ -158,7 +162,8 @@ pub lowest : (k m : ℕ) → 0 < m → m < 2 ^ k → Lowest k m (trailingZeros k
 lowest zero m p h = absurd (omega arith)
 lowest (suc k) m p h =
     ⊎-elim
-    (λ e. subst (Lowest (suc k) m) (sym (zeros-even k m e)) (up k m (trailingZeros k (m / 2)) e (lowest k (m / 2) (omega arith) (half k m h))))
+    (λ e. subst (Lowest (suc k) m) (sym (zeros-even k m e))
+    (up k m (trailingZeros k (m / 2)) e (lowest k (m / 2) (omega arith) (half k m h))))
     (λ e. subst (Lowest (suc k) m) (sym (zeros-odd k m e))
     (record { small = omega arith; set = bit-first m ∙ eq-eqb (m % 2) 1 e; least = λ j l. absurd (omega arith) }))
     (parity m)
@@ -174,7 +179,8 @@ unfolding first
 first-front [] b i e = absurd (let z : _≡_ {A = ℕ} 0 1 = cc in omega arith)
 first-front (x ∷ a) b i e = e
 
-first-those : (n : ℕ) (f : ℕ → Bool) (t : ℕ) → t < n → f t ≡ true → ((i : ℕ) → i < t → f i ≡ false) → first (those n f) ≡ some t
+first-those : (n : ℕ) (f : ℕ → Bool) (t : ℕ) → t < n → f t ≡ true → ((i : ℕ) → i < t → f i ≡ false)
+    → first (those n f) ≡ some t
 unfolding those first
 first-those zero f t l e q = absurd (omega arith)
 first-those (suc n) f t l e q =
@@ -192,19 +198,31 @@ lowest-number m f s e q p =
     let t = trailingZeros 64 m in
     let l = lowest 64 m p s in
     below-or t 8
-    (λ k. sym (ap numberOf (first-those 8 f t k (sym (e t k) ∙ l .set) (λ i j. sym (e i (omega arith)) ∙ l .least i j))))
+    (λ k. sym
+    (ap numberOf (first-those 8 f t k (sym (e t k) ∙ l .set) (λ i j. sym (e i (omega arith)) ∙ l .least i j))))
     (λ k.
     let z : t ≡ 8 = below-or 8 t (λ j. absurd (clash q (l .least 8 j))) (λ j. omega arith) in
     z ∙ sym (ap (λ (l : List ℕ). numberOf (first l)) (none-those 8 f (λ i j. sym (e i j) ∙ l .least i (omega arith)))))
 
 -- with bit 8 set beside the low eight bits of a word, there is a lowest
-pub with-stop : (x : ℕ) → x < 256 → (bitOr x 256 < 2 ^ 64) × ((bit (bitOr x 256) 8 ≡ true) × (((i : ℕ) → i < 8 → bit (bitOr x 256) i ≡ bit x i) × (0 < bitOr x 256)))
+pub with-stop : (x : ℕ) → x < 256
+    → (bitOr x 256 < 2 ^ 64) ×
+    ((bit (bitOr x 256) 8 ≡ true) × (((i : ℕ) → i < 8 → bit (bitOr x 256) i ≡ bit x i) × (0 < bitOr x 256)))
 unfolding bit every
 with-stop x l =
     let s = or-lt 64 x 256 (omega arith) (lit< tt) in
     let a = or-add-and x 256 in
-    let b = and-le-l x 256 in
-    (s, (bit-or x 256 8 ∙ or-true (bit x 8), ((λ i k. bit-or x 256 i ∙ ap (λ (c : Bool). bit x i || c) (not-stop i k) ∙ or-false (bit x i)), omega (arith, a, b))))
+    let b = and-le-l x 256 in (
+      s,
+      (
+        bit-or x 256 8
+            ∙ or-true (bit x 8),
+        (
+          (λ i k. bit-or x 256 i ∙ ap (λ (c : Bool). bit x i || c) (not-stop i k) ∙ or-false (bit x i)),
+          omega (arith, a, b),
+        ),
+      ),
+    )
   where
     not-stop : (i : ℕ) → i < 8 → bit 256 i ≡ false
     not-stop i k = not-true (bit 256 i) (every-at (λ i. not (bit 256 i)) 8 i k refl)

@@ -1,5 +1,5 @@
 -- Laws of a completion: a state stays a state, and what is completed is what the rules' step gives.
-use mathlib.Core.Path.{_≡_, refl, ap, _∙_}
+use mathlib.Core.Path.{_≡_, ap}
 use Prim.Native.Nat.{_≤_}
 use native.Mathlib.Omega.{arith}
 use lib.Dec.{eqb}
@@ -7,7 +7,7 @@ use Rattle.rules.specs.Names.{RESUME-PENDING}
 use Rattle.rules.specs.Harts.{doneOf}
 use Rattle.rules.specs.declared.records.Hart.{Hart}
 use Rattle.rules.specs.declared.records.Next.{Next}
-use Rattle.rules.specs.declared.records.Next.the-variants.{To, Forbidden}
+use Rattle.rules.specs.declared.records.Next.the-variants.{To}
 use Rattle.rules.proofs.Logic.{if-both}
 use Rattle.store.specs.Settling.{after, completedOf}
 

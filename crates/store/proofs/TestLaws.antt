@@ -1,30 +1,22 @@
 -- Laws of the tests: what they ask of a row's words, and the two halves of the rows.
 use mathlib.Core.Path.{_≡_, refl, sym, ap, ap₂, _∙_, subst}
-use mathlib.Core.Bool.{Bool, true, false, _&&_, and-true, and-assoc}
-use mathlib.Core.List.{List, []}
-use Prim.Native.Nat.{ℕ, zero, suc, _+_, _/_, _%_, _^_, _-_, _<_, _≤_}
+use mathlib.Core.Bool.{Bool, true, false, _&&_}
+use mathlib.Core.List.{List}
+use Prim.Native.Nat.{ℕ, zero, suc, _+_, _/_, _%_, _^_, _-_, _<_}
 use native.Mathlib.Omega.{arith}
 use lib.Bits.{bitOr, or-add-and, and-le-l, and-le-r}
-use lib.Dec.{eqb, leb, ltb}
-use lib.ListN.{length, getD, length-map}
+use lib.Dec.{eqb, leb}
+use lib.ListN.{getD}
 use borrow.Author.Tests.{leb-true, le-leb, lt-leb, eqb-true, eq-eqb, ne-eqb, lt-ltb, le-ltb}
 use Rattle.rules.specs.Choice.{if_then_else_}
-use Rattle.rules.specs.Names.{harts, counters}
-use Rattle.rules.specs.Sets.{bit, every}
-use Rattle.rules.specs.Platform.{has, enabled}
-use Rattle.rules.specs.Tables.{hartAt, ownAt, counterAt, isIdle, isBlank, hartWellFormed, counterWellFormed}
-use Rattle.rules.specs.Tables.{shaped, hartRowWellFormed, tablesWellFormed}
-use Rattle.rules.specs.declared.platform.Platform.{Platform}
-use Rattle.rules.specs.declared.records.Hart.{Hart}
-use Rattle.rules.specs.declared.records.Counter.{Counter}
+use Rattle.rules.specs.Sets.{every}
+use Rattle.rules.specs.Tables.{isIdle, isBlank, hartWellFormed, counterWellFormed}
 use Rattle.rules.proofs.Logic.{if-true, if-false, below-or, same-test, and-l, and-r, and-of}
 use Rattle.rules.proofs.SetLaws.{every-at, every-of, every-ext}
-use Rattle.store.specs.Rows.{byte, stateIn, hartIn, counterOf, counterIn, countersIn, Fit}
-use Rattle.store.specs.Tests.{rowWellFormed, Half}
-use Rattle.store.specs.Seen.{seen, Shaped, makeShaped, rowOf, sizeOf}
+use Rattle.store.specs.Rows.{byte, stateIn, hartIn, counterOf, counterIn}
+use Rattle.store.specs.Tests.{rowWellFormed}
 use Rattle.store.proofs.ByteLaws.{past-all, bytes-one, byte-none}
-use Rattle.store.proofs.RowLaws.{counter-at, eight, of-none, of-stopped, of-running, kinds}
-use Rattle.store.proofs.ViewLaws.{hart-seen, own-seen}
+use Rattle.store.proofs.RowLaws.{of-none, of-stopped, of-running, kinds}
 
 -- ----- words that are 0, folded by or
 
@@ -58,10 +50,12 @@ module _ (w : ℕ) where
   unfolding stateIn
   state-idle =
       below-or w 2
-      (λ l. ap (λ (n : ℕ). eqb n 1 && eqb (w % 2) 0) (if-true _ _ (lt-ltb w 2 l)) ∙ sym (ne-eqb w 4 (λ q. omega arith)))
+      (λ l. ap (λ (n : ℕ). eqb n 1 && eqb (w % 2) 0) (if-true _ _ (lt-ltb w 2 l))
+      ∙ sym (ne-eqb w 4 (λ q. omega arith)))
       (λ l. ap (λ (n : ℕ). eqb n 1 && eqb (w % 2) 0) (if-false _ _ (le-ltb w 2 l)) ∙
       same-test (eqb (w / 2 - 1) 1 && eqb (w % 2) 0) (eqb w 4)
-      (λ q. eq-eqb w 4 (omega (arith, eqb-true (w / 2 - 1) 1 (and-l _ _ q), eqb-true (w % 2) 0 (and-r (eqb (w / 2 - 1) 1) _ q))))
+      (λ q. eq-eqb w 4
+      (omega (arith, eqb-true (w / 2 - 1) 1 (and-l _ _ q), eqb-true (w % 2) 0 (and-r (eqb (w / 2 - 1) 1) _ q))))
       (λ q.
       let z = eqb-true w 4 q in
       and-of (eq-eqb (w / 2 - 1) 1 (omega arith)) (eq-eqb (w % 2) 0 (omega arith))))
@@ -72,7 +66,8 @@ module _ (b v : ℕ) where
   counter-on =
       kinds b (counterWellFormed true (counterOf b v) ≡ leb b 44)
       (λ e. ap (counterWellFormed true) (of-none b v e) ∙ sym (le-leb b 44 (omega arith)))
-      (λ l m. ap (counterWellFormed true) (of-stopped b v l m) ∙ le-leb (b - 1) 21 (omega arith) ∙ sym (le-leb b 44 (omega arith)))
+      (λ l m. ap (counterWellFormed true) (of-stopped b v l m) ∙ le-leb (b - 1) 21 (omega arith)
+      ∙ sym (le-leb b 44 (omega arith)))
       (λ l. ap (counterWellFormed true) (of-running b v l)
       ∙ same-test (leb (b - 23) 21) (leb b 44) (λ q. le-leb b 44 (omega (arith, leb-true (b - 23) 21 q)))
       (λ q. le-leb (b - 23) 21 (omega (arith, leb-true b 44 q))))
@@ -87,7 +82,9 @@ module _ (b v : ℕ) where
 
 -- ----- the row of an enabled hart
 
-pub row-on : (r : List ℕ) → rowWellFormed true r ≡ ((leb 2 (getD r 0 0) && leb (getD r 0 0) 15) && every 8 (λ i. leb (byte (getD r 3 0) i) 44))
+pub row-on : (r : List ℕ)
+    → rowWellFormed true r ≡
+    ((leb 2 (getD r 0 0) && leb (getD r 0 0) 15) && every 8 (λ i. leb (byte (getD r 3 0) i) 44))
 unfolding rowWellFormed hartWellFormed hartIn counterIn if_then_else_
 row-on r =
     ap₂ (λ (a b : Bool). a && b) (state-fits (getD r 0 0))
@@ -132,9 +129,12 @@ module _ (r : List ℕ) where
       ap (λ (b : Bool). (stopped && (retentive && (address && opaque))) && b)
       (every-ext _ _ 8 (λ i h. counter-off (byte (getD r 3 0) i) (getD r (4 + i) 0)))
 
-  there : getD r 3 0 < 2 ^ 64 → ((stopped && (retentive && (address && opaque))) && every 8 blank) ≡ true → (eqb first 4 && every 11 zeroed) ≡ true
+  there : getD r 3 0 < 2 ^ 64 → ((stopped && (retentive && (address && opaque))) && every 8 blank) ≡ true
+      → (eqb first 4 && every 11 zeroed) ≡ true
   there small e =
-      and-of (sym (state-idle first) ∙ and-of (and-l stopped (retentive && (address && opaque)) h) (and-l retentive (address && opaque) n)) (every-of zeroed 11 word)
+      and-of (sym (state-idle first)
+      ∙ and-of (and-l stopped (retentive && (address && opaque)) h) (and-l retentive (address && opaque) n))
+      (every-of zeroed 11 word)
     where
       h : (stopped && (retentive && (address && opaque))) ≡ true
       h = and-l (stopped && (retentive && (address && opaque))) (every 8 blank) e
@@ -152,14 +152,18 @@ module _ (r : List ℕ) where
           eq-eqb (getD r 3 0) 0
           (bytes-one 8 (getD r 3 0) 0 (past-all (getD r 3 0) small ∙ sym (past-all 0 (omega arith)))
           (λ i m. eqb-true (byte (getD r 3 0) i) 0 (and-l (control i) (value i) (o i m)) ∙ sym (byte-none i)))
-      word (suc (suc (suc j))) l = at-k (4 + j) (1 + suc (suc (suc j))) (omega arith) (and-r (control j) (value j) (o j (omega arith)))
+      word (suc (suc (suc j))) l =
+          at-k (4 + j) (1 + suc (suc (suc j))) (omega arith) (and-r (control j) (value j) (o j (omega arith)))
 
-  back : (eqb first 4 && every 11 zeroed) ≡ true → ((stopped && (retentive && (address && opaque))) && every 8 blank) ≡ true
+  back : (eqb first 4 && every 11 zeroed) ≡ true
+      → ((stopped && (retentive && (address && opaque))) && every 8 blank) ≡ true
   back e =
-      and-of (and-of (and-l stopped retentive s) (and-of (and-r stopped retentive s) (and-of (word 0 (omega arith)) (word 1 (omega arith)))))
+      and-of (and-of (and-l stopped retentive s)
+      (and-of (and-r stopped retentive s) (and-of (word 0 (omega arith)) (word 1 (omega arith)))))
       (every-of blank 8
       (λ i l. and-of
-      (eq-eqb (byte (getD r 3 0) i) 0 (ap (λ (w : ℕ). byte w i) (eqb-true (getD r 3 0) 0 (word 2 (omega arith))) ∙ byte-none i))
+      (eq-eqb (byte (getD r 3 0) i) 0 (ap (λ (w : ℕ). byte w i) (eqb-true (getD r 3 0) 0 (word 2 (omega arith)))
+      ∙ byte-none i))
       (at-k (1 + (3 + i)) (4 + i) (omega arith) (word (3 + i) (omega arith)))))
     where
       s : (stopped && retentive) ≡ true
@@ -168,5 +172,9 @@ module _ (r : List ℕ) where
       word : (k : ℕ) → k < 11 → zeroed k ≡ true
       word k l = every-at zeroed 11 k l (and-r (eqb first 4) (every 11 zeroed) e)
 
-  pub row-off : getD r 3 0 < 2 ^ 64 → rowWellFormed false r ≡ (eqb (getD r 0 0) 4 && every 11 (λ k. eqb (getD r (1 + k) 0) 0))
-  row-off small = off-split ∙ same-test ((stopped && (retentive && (address && opaque))) && every 8 blank) (eqb first 4 && every 11 zeroed) (there small) back
+  pub row-off : getD r 3 0 < 2 ^ 64
+      → rowWellFormed false r ≡ (eqb (getD r 0 0) 4 && every 11 (λ k. eqb (getD r (1 + k) 0) 0))
+  row-off small =
+      off-split
+      ∙ same-test ((stopped && (retentive && (address && opaque))) && every 8 blank) (eqb first 4 && every 11 zeroed)
+      (there small) back

@@ -1,5 +1,5 @@
 -- Laws of the view: what a row of it is, what a row put anew is in it, and that rows with the same view are the same.
-use mathlib.Core.Path.{_≡_, refl, sym, ap, ap₂, _∙_, subst}
+use mathlib.Core.Path.{_≡_, sym, ap, ap₂, _∙_, subst}
 use mathlib.Core.List.{List, [], map}
 use Prim.Native.Nat.{ℕ, _<_}
 use native.Mathlib.Decide.{ℕ-discrete}
@@ -7,7 +7,7 @@ use native.Mathlib.Omega.{arith}
 use lib.ListN.{length, getD, set, length-set}
 use lib.Seq.{getD-set-same, getD-set-other, set-getD}
 use Rattle.rules.specs.Names.{harts, STOPPED}
-use Rattle.rules.specs.Tables.{Tables, idle, hartAt, ownAt, counterAt}
+use Rattle.rules.specs.Tables.{Tables, idle, hartAt, ownAt}
 use Rattle.rules.specs.declared.records.Hart.{Hart}
 use Rattle.rules.specs.declared.records.Counter.{Counter}
 use Rattle.store.specs.Rows.{hartIn, countersIn, Fit, Held}
@@ -44,18 +44,22 @@ module _ (t : List (List ℕ)) (k : Shaped t) (h : ℕ) (l : h < harts) where
       → Holds (set t h r) (tables (set (seen t .harts) h x) (set (seen t .counters) h cs))
   unfolding seen
   row-holds r x cs q = record {
-    is = ap₂ tables (map-set hartIn t h r ∙ ap (set (map hartIn t) h) (q .record′)) (map-set countersIn t h r ∙ ap (set (map countersIn t) h) (q .own));
+    is =
+        ap₂ tables (map-set hartIn t h r ∙ ap (set (map hartIn t) h) (q .hart)) (map-set countersIn t h r
+        ∙ ap (set (map countersIn t) h) (q .own));
     shaped = shaped-set t h r k (q .fit);
   }
 
-  pub put-hart-holds : (r : List ℕ) (x : Hart) → Held r x (countersIn (getD t h [])) → Holds (set t h r) (putHart (seen t) h x)
+  pub put-hart-holds : (r : List ℕ) (x : Hart) → Held r x (countersIn (getD t h []))
+      → Holds (set t h r) (putHart (seen t) h x)
   unfolding ownAt
   put-hart-holds r x q =
       subst (λ (cs : List (List Counter)). Holds (set t h r) (tables (set (seen t .harts) h x) cs))
       (ap (set (seen t .counters) h) (sym own-seen) ∙ set-getD (seen t .counters) h [])
       (row-holds r x (countersIn (getD t h [])) q)
 
-  pub put-own-holds : (r : List ℕ) (cs : List Counter) → Held r (hartIn (getD t h [])) cs → Holds (set t h r) (putOwn (seen t) h cs)
+  pub put-own-holds : (r : List ℕ) (cs : List Counter) → Held r (hartIn (getD t h [])) cs
+      → Holds (set t h r) (putOwn (seen t) h cs)
   unfolding hartAt
   put-own-holds r cs q =
       subst (λ (xs : List Hart). Holds (set t h r) (tables xs (set (seen t .counters) h cs)))
@@ -63,7 +67,8 @@ module _ (t : List (List ℕ)) (k : Shaped t) (h : ℕ) (l : h < harts) where
       (row-holds r (hartIn (getD t h [])) cs q)
 
   -- the counters altered by f
-  pub alter-own-holds : (f : List Counter → List Counter) (r : List ℕ) → Held r (hartIn (getD t h [])) (f (countersIn (getD t h [])))
+  pub alter-own-holds : (f : List Counter → List Counter) (r : List ℕ)
+      → Held r (hartIn (getD t h [])) (f (countersIn (getD t h [])))
       → Holds (set t h r) (putOwn (seen t) h (f (ownAt (seen t) h)))
   alter-own-holds f r q =
       subst (λ (cs : List Counter). Holds (set t h r) (putOwn (seen t) h (f cs))) (sym own-seen)

@@ -109,7 +109,7 @@ pub record Fit (r : List ℕ) : Type 0 where
   pub small : (i : ℕ) → getD r i 0 < 2 ^ 64
 
 pub record Held (r : List ℕ) (x : Hart) (cs : List Counter) : Type 0 where
-  pub record′ : hartIn r ≡ x
+  pub hart : hartIn r ≡ x
   pub own : countersIn r ≡ cs
   pub fit : Fit r
 

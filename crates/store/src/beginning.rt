@@ -1,11 +1,9 @@
 // Fresh tables.
 ghost use mathlib.Core.Path.{_≡_};
-ghost use Prim.Native.Nat.{_<_};
 ghost use lib.ListN.{length};
 ghost use Rattle.rules.specs.Names.{harts};
 ghost use Rattle.rules.specs.Platform.{platformAccepted};
-ghost use Rattle.rules.specs.Tables.{fresh};
-ghost use Rattle.store.specs.Seen.{Holds, freshRows, FreshOr};
+ghost use Rattle.store.specs.Seen.{freshRows, FreshOr};
 use crate::choice::choose;
 use crate::rows::HARTS;
 use crate::rows::Row;

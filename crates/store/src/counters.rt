@@ -9,6 +9,7 @@ ghost use Rattle.rules.specs.Replies.{counted};
 ghost use Rattle.rules.specs.Counters.{configured};
 ghost use Rattle.store.specs.Rows.{Fit, Alters, byte, counterOf, countersIn};
 ghost use Rattle.store.specs.Rows.{withByte, controlOf};
+ghost use Rattle.store.specs.Sets.{configureAt};
 use crate::choice::choose;
 use crate::choice::either;
 use crate::rows::CONTROL;
@@ -110,7 +111,7 @@ fn configured(c: Counter, flags: u64, code: u64) -> Counter
 // Configures counter i of a row.
 pub fn configure_counter(r: &mut Row, i: usize, flags: u64, code: u64)
     requires { ⌜ Fit (now r) × ((i < counters) × (code ≤ lastCode)) ⌝ }
-    ensures { λ _. ⌜ Alters (now (r .entry)) (now (r .exit)) (λ cs. set cs i (configured flags code (counterAt cs i))) ⌝ }
+    ensures { λ _. ⌜ Alters (now (r .entry)) (now (r .exit)) (configureAt flags code i) ⌝ }
 {
     write_counter(r, i, configured(read_counter(r, i), flags, code));
 }

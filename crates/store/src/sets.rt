@@ -131,7 +131,8 @@ fn ended(c: Counter, flags: u64) -> Counter
 
 // Starts counter i if the set has it.
 fn start_one(r: &mut Row, i: usize, s: u64, flags: u64, initial: u64)
-    requires { ⌜ Fit (now r) × ((i < counters) × KeptAt (begun flags initial) s i (countersIn (now r))) ⌝ }
+    requires { ⌜ Fit (now r)
+        × ((i < counters) × KeptAt (begun flags initial) s i (countersIn (now r))) ⌝ }
     ensures { λ _. ⌜ Alters (now (r .entry)) (now (r .exit)) (atOne (begun flags initial) s i) ⌝ }
 {
     if bit_of(s, i as u64) {
@@ -152,7 +153,8 @@ fn stop_one(r: &mut Row, i: usize, s: u64, flags: u64)
 // Starts each counter of the set.
 pub fn start_row(r: &mut Row, s: u64, flags: u64, initial: u64)
     requires { ⌜ Fit (now r) × Kept (begun flags initial) s (countersIn (now r)) ⌝ }
-    ensures { λ _. ⌜ Alters (now (r .entry)) (now (r .exit)) (each (begun flags initial) (setOf s)) ⌝ }
+    ensures { λ _. ⌜ Alters (now (r .entry)) (now (r .exit))
+        (each (begun flags initial) (setOf s)) ⌝ }
 {
     for i in 0..8 {
         start_one(r, i, s, flags, initial);

@@ -40,7 +40,8 @@ pub fn settled(x: Hart) -> Hart
 // Completes the pending state of a row's hart.
 pub fn settle_row(r: &mut Row)
     requires { ⌜ Fit (now r) × ((hartIn (now r)) .state ≤ RESUME-PENDING) ⌝ }
-    ensures { λ _. ⌜ Held (now (r .exit)) (completedOf (hartIn (now (r .entry)))) (countersIn (now (r .entry))) ⌝ }
+    ensures { λ _. ⌜ Held (now (r .exit))
+        (completedOf (hartIn (now (r .entry)))) (countersIn (now (r .entry))) ⌝ }
 {
     pack(r, settled(unpack(r)));
 }

@@ -1,12 +1,11 @@
-// The test of whole tables, on their words. It has no early exit, so that it also tells the shape of
-// every row.
+// The test of whole tables, on their words. It has no early exit, so that it also tells the shape
+// of every row.
 ghost use mathlib.Core.Path.{_≡_};
-ghost use mathlib.Core.List.{[]};
 ghost use Prim.Native.Nat.{ℕ, _+_, _<_, _≤_, _^_};
 ghost use lib.Dec.{eqb, leb};
 ghost use lib.ListN.{length, getD};
 ghost use Rattle.rules.specs.Names.{harts, counters};
-ghost use Rattle.rules.specs.Sets.{bit, every};
+ghost use Rattle.rules.specs.Sets.{every};
 ghost use Rattle.rules.specs.Tables.{tablesWellFormed};
 ghost use Rattle.store.specs.Rows.{words, byte, lastControl, Fit};
 ghost use Rattle.store.specs.Tests.{rowWellFormed, Half};

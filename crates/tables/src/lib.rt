@@ -1,17 +1,16 @@
 // The table keeping, as the crates above see it: what it does is said through the view `seen` of
 // specs/, and how the tables are held is told to no one. Assumes nothing.
 ghost use mathlib.Core.Path.{_≡_};
-ghost use mathlib.Core.Bool.{true};
 ghost use Prim.Native.Nat.{_<_, _≤_};
-ghost use lib.ListN.{set};
 ghost use Rattle.rules.specs.Names.{harts, counters, lastCode, RESUME-PENDING};
 ghost use Rattle.rules.specs.Platform.{platformAccepted};
 ghost use Rattle.rules.specs.Tables.{hartAt, stateOf, ownAt, counterAt, tablesWellFormed};
 ghost use Rattle.rules.specs.Sets.{all};
-ghost use Rattle.rules.specs.Counters.{isMapped, isRunning, notRunning, chosen, configured};
+ghost use Rattle.rules.specs.Counters.{isMapped, isRunning, notRunning, chosen};
 ghost use Rattle.rules.specs.Counters.{each, begun, ended};
 ghost use Rattle.tables.specs.Keeping.{seen, Shaped, Holds, putHart, alterOwn, countHart};
-ghost use Rattle.tables.specs.Keeping.{completeHart, FreshOr, setOf, numberOf, Fine};
+ghost use Rattle.tables.specs.Keeping.{completeHart, FreshOr, setOf, numberOf};
+ghost use Rattle.tables.specs.Keeping.{Fine, Startable, configureAt};
 use rules::platform::Platform;
 use rules::records::Counter;
 use rules::records::Hart;
@@ -51,7 +50,8 @@ pub fn put_hart(t: &mut Rows, h: usize, x: Hart)
 
 // Completes the pending state of hart h; leaves a record with none.
 pub fn complete(t: &mut Rows, h: usize)
-    requires { ⌜ (h < harts) × ((stateOf (seen (now t) .harts) h ≤ RESUME-PENDING) × Shaped (now t)) ⌝ }
+    requires { ⌜ (h < harts)
+        × ((stateOf (seen (now t) .harts) h ≤ RESUME-PENDING) × Shaped (now t)) ⌝ }
     ensures { λ _. ⌜ Holds (now (t .exit)) (completeHart (seen (now (t .entry))) h) ⌝ }
 {
     store::keeping::complete(t, h);
@@ -76,7 +76,8 @@ pub fn count(t: &mut Rows, h: usize, code: u64)
 // Configures counter i of hart h.
 pub fn configure(t: &mut Rows, h: usize, i: usize, flags: u64, code: u64)
     requires { ⌜ (h < harts) × ((i < counters) × ((code ≤ lastCode) × Shaped (now t))) ⌝ }
-    ensures { λ _. ⌜ Holds (now (t .exit)) (alterOwn (seen (now (t .entry))) h (λ cs. set cs i (configured flags code (counterAt cs i)))) ⌝ }
+    ensures { λ _. ⌜ Holds (now (t .exit))
+        (alterOwn (seen (now (t .entry))) h (configureAt flags code i)) ⌝ }
 {
     store::keeping::configure(t, h, i, flags, code);
 }
@@ -115,8 +116,9 @@ pub fn match_counter(t: &Rows, h: usize, s: u64, flags: u64) -> u64
 
 // Starts each counter of the set s of hart h. They are mapped.
 pub fn start_set(t: &mut Rows, h: usize, s: u64, flags: u64, initial: u64)
-    requires { ⌜ (h < harts) × (Shaped (now t) × (Fine (ownAt (seen (now t)) h) × (all (isMapped (ownAt (seen (now t)) h)) (setOf s) ≡ true))) ⌝ }
-    ensures { λ _. ⌜ Holds (now (t .exit)) (alterOwn (seen (now (t .entry))) h (each (begun flags initial) (setOf s))) ⌝ }
+    requires { ⌜ (h < harts) × (Shaped (now t) × Startable (ownAt (seen (now t)) h) s) ⌝ }
+    ensures { λ _. ⌜ Holds (now (t .exit))
+        (alterOwn (seen (now (t .entry))) h (each (begun flags initial) (setOf s))) ⌝ }
 {
     store::keeping::start_set(t, h, s, flags, initial);
 }
@@ -124,7 +126,8 @@ pub fn start_set(t: &mut Rows, h: usize, s: u64, flags: u64, initial: u64)
 // Stops each counter of the set s of hart h.
 pub fn stop_set(t: &mut Rows, h: usize, s: u64, flags: u64)
     requires { ⌜ (h < harts) × (Shaped (now t) × Fine (ownAt (seen (now t)) h)) ⌝ }
-    ensures { λ _. ⌜ Holds (now (t .exit)) (alterOwn (seen (now (t .entry))) h (each (ended flags) (setOf s))) ⌝ }
+    ensures { λ _. ⌜ Holds (now (t .exit))
+        (alterOwn (seen (now (t .entry))) h (each (ended flags) (setOf s))) ⌝ }
 {
     store::keeping::stop_set(t, h, s, flags);
 }

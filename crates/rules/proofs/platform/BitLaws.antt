@@ -1,8 +1,8 @@
 -- Laws of a word's bits: of the word halved, of and and or, that the bits are the word, and when one word has each bit
 -- of another.
-use mathlib.Core.Path.{_≡_, refl, sym, ap, ap₂, _∙_, subst}
+use mathlib.Core.Path.{_≡_, refl, sym, ap, _∙_, subst}
 use mathlib.Core.Bool.{Bool, true, false, not, _&&_, _||_}
-use Prim.Native.Nat.{ℕ, zero, suc, _+_, _*_, _/_, _%_, _^_, _<_}
+use Prim.Native.Nat.{ℕ, zero, suc, _*_, _/_, _%_, _^_, _<_}
 use native.Mathlib.Nat.{mod-lt, div-one, div-div-eq-div-mul, pow-suc, pow-succ'}
 use native.Mathlib.Omega.{arith}
 use lib.Bits.{bitAnd, bitOr, and-shr, or-shr, and-mod, or-mod, and-le-l}
@@ -21,7 +21,8 @@ bit-first m = ap (λ (x : ℕ). eqb (x % 2) 1) (div-one m)
 pub bit-next : (m i : ℕ) → bit m (suc i) ≡ bit (m / 2) i
 unfolding bit
 bit-next m i =
-    ap (λ (x : ℕ). eqb (m / x % 2) 1) (pow-succ' 2 i) ∙ ap (λ (x : ℕ). eqb (x % 2) 1) (sym (div-div-eq-div-mul m 2 (2 ^ i)))
+    ap (λ (x : ℕ). eqb (m / x % 2) 1) (pow-succ' 2 i)
+    ∙ ap (λ (x : ℕ). eqb (x % 2) 1) (sym (div-div-eq-div-mul m 2 (2 ^ i)))
 
 half : (n m : ℕ) → m < 2 ^ suc n → m / 2 < 2 ^ n
 half n m h = let l : m < 2 ^ n * 2 = subst (λ (x : ℕ). m < x) (pow-suc 2 n) h in omega arith
@@ -39,8 +40,10 @@ same-digit (suc zero) (suc (suc b)) h l e = absurd (omega arith)
 pub bits-one : (n a b : ℕ) → a < 2 ^ n → b < 2 ^ n → ((i : ℕ) → i < n → bit a i ≡ bit b i) → a ≡ b
 bits-one zero a b h l e = omega arith
 bits-one (suc n) a b h l e =
-    let q = bits-one n (a / 2) (b / 2) (half n a h) (half n b l) (λ i m. sym (bit-next a i) ∙ e (suc i) (omega arith) ∙ bit-next b i) in
-    let d = same-digit (a % 2) (b % 2) (mod-lt a (lit< tt)) (mod-lt b (lit< tt)) (sym (bit-first a) ∙ e 0 (omega arith) ∙ bit-first b) in
+    let q = bits-one n (a / 2) (b / 2) (half n a h) (half n b l) (λ i m. sym (bit-next a i) ∙ e (suc i) (omega arith)
+    ∙ bit-next b i) in
+    let d = same-digit (a % 2) (b % 2) (mod-lt a (lit< tt)) (mod-lt b (lit< tt)) (sym (bit-first a) ∙ e 0 (omega arith)
+    ∙ bit-first b) in
     omega arith
 
 -- ----- and, or
@@ -89,8 +92,11 @@ subset-word n a b l =
     (λ e.
     let z = eqb-true (bitAnd a b) a e in
     every-of (λ i. not (bit a i) || bit b i) n
-    (λ i m. not-or (bit a i) (bit b i) (λ q. and-r (bit a i) (bit b i) (sym (bit-and a b i) ∙ ap (λ (x : ℕ). bit x i) z ∙ q))))
+    (λ i m. not-or (bit a i) (bit b i)
+    (λ q. and-r (bit a i) (bit b i) (sym (bit-and a b i) ∙ ap (λ (x : ℕ). bit x i) z ∙ q))))
     (λ e.
     eq-eqb (bitAnd a b) a
     (bits-one n (bitAnd a b) a (omega (arith, and-le-l a b)) l
-    (λ i m. bit-and a b i ∙ and-same (bit a i) (bit b i) (not-or-inv (bit a i) (bit b i) (every-at (λ i. not (bit a i) || bit b i) n i m e)))))
+    (λ i m. bit-and a b i
+    ∙ and-same (bit a i) (bit b i)
+    (not-or-inv (bit a i) (bit b i) (every-at (λ i. not (bit a i) || bit b i) n i m e)))))

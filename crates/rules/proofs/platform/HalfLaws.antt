@@ -1,6 +1,6 @@
 -- Laws of the two words of a set of harts, 64 harts each.
-use mathlib.Core.Path.{_≡_, refl, sym, ap, ap₂, _∙_}
-use mathlib.Core.Bool.{Bool, true, false, not, _&&_, _||_, and-true, and-assoc}
+use mathlib.Core.Path.{_≡_, sym, ap, ap₂, _∙_}
+use mathlib.Core.Bool.{Bool, not, _&&_, _||_, and-true, and-assoc}
 use Prim.Native.Nat.{ℕ, zero, suc, _+_, _-_, _^_, _<_}
 use native.Mathlib.Omega.{arith}
 use lib.Bits.{bitAnd}
@@ -40,6 +40,8 @@ module _ (s r : HartSet) (l : s .low < 2 ^ 64) (m : s .high < 2 ^ 64) where
       ≡ every harts (λ h. not (has s h) || has r h)
   subset-words =
       ap₂ _&&_
-      (subset-word 64 (s .low) (r .low) l ∙ sym (every-ext _ _ 64 (λ i k. ap₂ (λ (a b : Bool). not a || b) (has-low s i k) (has-low r i k))))
-      (subset-word 64 (s .high) (r .high) m ∙ sym (every-ext _ _ 64 (λ i k. ap₂ (λ (a b : Bool). not a || b) (has-high s i k) (has-high r i k))))
+      (subset-word 64 (s .low) (r .low) l
+      ∙ sym (every-ext _ _ 64 (λ i k. ap₂ (λ (a b : Bool). not a || b) (has-low s i k) (has-low r i k))))
+      (subset-word 64 (s .high) (r .high) m
+      ∙ sym (every-ext _ _ 64 (λ i k. ap₂ (λ (a b : Bool). not a || b) (has-high s i k) (has-high r i k))))
       ∙ sym (every-halves (λ h. not (has s h) || has r h))

@@ -1,6 +1,6 @@
 -- Laws of the used ranges, one by one, and of one range without a sum that could wrap.
 use mathlib.Core.Path.{_≡_, refl, ap, _∙_}
-use mathlib.Core.Bool.{Bool, true, false, _&&_, _||_}
+use mathlib.Core.Bool.{Bool, true, false, _&&_}
 use mathlib.Core.List.{List, [], _∷_}
 use Prim.Native.Nat.{ℕ, zero, suc, _+_, _-_, _^_, _<_, _≤_}
 use native.Mathlib.Nat.{le-of-suc-le-suc, not-suc-le-zero}
@@ -18,9 +18,11 @@ module _ {A : Type 0} (f : A → Bool) where
   any-hit [] n i d m k e = absurd (not-suc-le-zero k)
   any-hit (x ∷ l) zero i d m k e = absurd (not-suc-le-zero m)
   any-hit (x ∷ l) (suc n) zero d m k e = rw e refl
-  any-hit (x ∷ l) (suc n) (suc i) d m k e = or-of (f x) _ (λ _. any-hit l n i d (le-of-suc-le-suc m) (le-of-suc-le-suc k) e)
+  any-hit (x ∷ l) (suc n) (suc i) d m k e =
+      or-of (f x) _ (λ _. any-hit l n i d (le-of-suc-le-suc m) (le-of-suc-le-suc k) e)
 
-  pub any-none : (l : List A) (n : ℕ) (d : A) → n ≤ length l → ((i : ℕ) → i < n → f (getD l i d) ≡ false) → any f (take n l) ≡ false
+  pub any-none : (l : List A) (n : ℕ) (d : A) → n ≤ length l → ((i : ℕ) → i < n → f (getD l i d) ≡ false)
+      → any f (take n l) ≡ false
   unfolding any
   any-none [] zero d k e = refl
   any-none [] (suc n) d k e = absurd (not-suc-le-zero k)
@@ -28,18 +30,21 @@ module _ {A : Type 0} (f : A → Bool) where
   any-none (x ∷ l) (suc n) d k e =
       rw (e 0 (omega arith)) (any-none l n d (le-of-suc-le-suc k) (λ i m. e (suc i) (omega arith)))
 
-  pub all-miss : (l : List A) (n i : ℕ) (d : A) → i < n → i < length l → f (getD l i d) ≡ false → all f (take n l) ≡ false
+  pub all-miss : (l : List A) (n i : ℕ) (d : A) → i < n → i < length l → f (getD l i d) ≡ false
+      → all f (take n l) ≡ false
   unfolding all
   all-miss [] n i d m k e = absurd (not-suc-le-zero k)
   all-miss (x ∷ l) zero i d m k e = absurd (not-suc-le-zero m)
   all-miss (x ∷ l) (suc n) zero d m k e = rw e refl
-  all-miss (x ∷ l) (suc n) (suc i) d m k e = both-false (f x) _ (all-miss l n i d (le-of-suc-le-suc m) (le-of-suc-le-suc k) e)
+  all-miss (x ∷ l) (suc n) (suc i) d m k e =
+      both-false (f x) _ (all-miss l n i d (le-of-suc-le-suc m) (le-of-suc-le-suc k) e)
     where
       both-false : (a b : Bool) → b ≡ false → (a && b) ≡ false
       both-false true b e = e
       both-false false b e = refl
 
-  pub all-each : (l : List A) (n : ℕ) (d : A) → n ≤ length l → ((i : ℕ) → i < n → f (getD l i d) ≡ true) → all f (take n l) ≡ true
+  pub all-each : (l : List A) (n : ℕ) (d : A) → n ≤ length l → ((i : ℕ) → i < n → f (getD l i d) ≡ true)
+      → all f (take n l) ≡ true
   unfolding all
   all-each [] zero d k e = refl
   all-each [] (suc n) d k e = absurd (not-suc-le-zero k)
@@ -63,7 +68,8 @@ pub record Looked {A : Type 0} (l : List A) (used n : ℕ) : Type 0 where
   pub inside : n ≤ length l
   pub same : take n l ≡ take used l
 
-pub looked : {A : Type 0} (l : List A) (used n : ℕ) → length l ≡ 8 → n ≡ (if ltb used 8 then used else 8) → Looked l used n
+pub looked : {A : Type 0} (l : List A) (used n : ℕ) → length l ≡ 8 → n ≡ (if ltb used 8 then used else 8)
+    → Looked l used n
 looked l used n e q =
     below-or used 8
     (λ m.
@@ -71,7 +77,11 @@ looked l used n e q =
     record { few = omega (arith, z); inside = omega (arith, z); same = ap (λ (k : ℕ). take k l) z })
     (λ m.
     let z = q ∙ if-false _ _ (le-ltb used 8 m) in
-    record { few = omega (arith, z); inside = omega (arith, z); same = take-over l n used (omega (arith, z)) (omega arith) })
+    record {
+      few = omega (arith, z);
+      inside = omega (arith, z);
+      same = take-over l n used (omega (arith, z)) (omega arith);
+    })
 
 -- ----- one range
 

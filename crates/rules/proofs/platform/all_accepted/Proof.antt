@@ -4,8 +4,8 @@ use Rattle.rules.proofs.Logic.{below-or}
 use Rattle.rules.proofs.platform.RangeLaws.{looked, all-miss, all-each}
 use Prim.Native.Nat.{ℕ, _≤_, _<_, _-_}
 use lib.ListN.{getD, length}
-use mathlib.Core.Bool.{true, false}
-use mathlib.Core.Path.{_≡_, sym, _∙_, ap, subst}
+use mathlib.Core.Bool.{true}
+use mathlib.Core.Path.{_≡_, sym, _∙_, subst}
 use native.Mathlib.Omega.{arith}
 use borrow.Author.Tests.{not-true, not-false}
 use borrow.Author.Needs.{needs}
@@ -13,7 +13,8 @@ use Rattle.rules.proofs.platform.all_accepted.Statement.{statement}
 use Rattle.rules.proofs.platform.all_accepted.Tie as tie
 
 abbrev Inv-loop : tie.InvT-loop
-Inv-loop used ranges n i₀ i = (i ≤ n) × ((n ≤ 8) × ((j : ℕ) → j < i → rangeAccepted 64 (getD ranges j (record { base = 0; length = 0 })) ≡ true))
+Inv-loop used ranges n i₀ i =
+    (i ≤ n) × ((n ≤ 8) × ((j : ℕ) → j < i → rangeAccepted 64 (getD ranges j (record { base = 0; length = 0 })) ≡ true))
 
 abbrev μ-loop : tie.MeasureT-loop
 μ-loop used ranges n i₀ i = n - i
@@ -45,7 +46,9 @@ returns c =
     let e : length (a .t1) ≡ 8 = omega arith in
     let k = looked (a .t1) (a .used) (n .result) e (n .ensures) in
     let i = c .before .before .before .before .loop .i in
-    sym (rw (k .same) at (all-miss (rangeAccepted 64) (a .t1) (n .result) i (record { base = 0; length = 0 }) (omega arith) (omega arith) (sym (c .before .accepted .ensures) ∙ not-true _ (c .if1 .taken))))
+    sym (rw (k .same) at
+    (all-miss (rangeAccepted 64) (a .t1) (n .result) i (record { base = 0; length = 0 }) (omega arith) (omega arith)
+    (sym (c .before .accepted .ensures) ∙ not-true _ (c .if1 .taken))))
 
 add-i : tie.Need-add-i Inv-loop μ-loop
 add-i c = search needs
@@ -65,7 +68,8 @@ loop-again c =
       (
         k .few,
         λ j m. below-or j (l .i) (λ p. l .inv .1 .1 j p)
-            (λ p. subst (λ (j : ℕ). rangeAccepted 64 (getD (a .t1) j (record { base = 0; length = 0 })) ≡ true) (let z : l .i ≡ j = omega arith in z) q),
+            (λ p. subst (λ (j : ℕ). rangeAccepted 64 (getD (a .t1) j (record { base = 0; length = 0 })) ≡ true)
+            (let z : l .i ≡ j = omega arith in z) q),
       ),
     )
 
@@ -76,7 +80,9 @@ returns-2 c =
     let e : length (a .t1) ≡ 8 = omega arith in
     let k = looked (a .t1) (a .used) (n .result) e (n .ensures) in
     let l = c .before .loop in
-    sym (rw (k .same) at (all-each (rangeAccepted 64) (a .t1) (n .result) (record { base = 0; length = 0 }) (k .inside) (λ j m. l .inv .1 .1 j (omega arith))))
+    sym (rw (k .same) at
+    (all-each (rangeAccepted 64) (a .t1) (n .result) (record { base = 0; length = 0 }) (k .inside)
+    (λ j m. l .inv .1 .1 j (omega arith))))
 
 pub all-accepted-spec : {M : Type 1} → statement M
 all-accepted-spec =

@@ -4,15 +4,16 @@ use Rattle.rules.proofs.Logic.{below-or}
 use Rattle.rules.proofs.platform.RangeLaws.{looked, any-hit, any-none}
 use Prim.Native.Nat.{ℕ, _≤_, _<_, _-_}
 use lib.ListN.{getD, length}
-use mathlib.Core.Bool.{true, false}
-use mathlib.Core.Path.{_≡_, sym, _∙_, ap, subst}
+use mathlib.Core.Bool.{false}
+use mathlib.Core.Path.{_≡_, sym, _∙_, subst}
 use native.Mathlib.Omega.{arith}
 use borrow.Author.Needs.{needs}
 use Rattle.rules.proofs.platform.lies_in_one.Statement.{statement}
 use Rattle.rules.proofs.platform.lies_in_one.Tie as tie
 
 abbrev Inv-loop : tie.InvT-loop
-Inv-loop used a ranges n i₀ i = (i ≤ n) × ((n ≤ 8) × ((j : ℕ) → j < i → liesIn a (getD ranges j (record { base = 0; length = 0 })) ≡ false))
+Inv-loop used a ranges n i₀ i =
+    (i ≤ n) × ((n ≤ 8) × ((j : ℕ) → j < i → liesIn a (getD ranges j (record { base = 0; length = 0 })) ≡ false))
 
 abbrev μ-loop : tie.MeasureT-loop
 μ-loop used a ranges n i₀ i = n - i
@@ -44,7 +45,9 @@ returns c =
     let e : length (a .t1) ≡ 8 = omega arith in
     let k = looked (a .t1) (a .used) (n .result) e (n .ensures) in
     let i = c .before .before .before .before .loop .i in
-    sym (rw (k .same) at (any-hit (liesIn (a .a)) (a .t1) (n .result) i (record { base = 0; length = 0 }) (omega arith) (omega arith) (sym (c .before .holds .ensures) ∙ c .if1 .taken)))
+    sym (rw (k .same) at
+    (any-hit (liesIn (a .a)) (a .t1) (n .result) i (record { base = 0; length = 0 }) (omega arith) (omega arith)
+    (sym (c .before .holds .ensures) ∙ c .if1 .taken)))
 
 add-i : tie.Need-add-i Inv-loop μ-loop
 add-i c = search needs
@@ -64,7 +67,8 @@ loop-again c =
       (
         k .few,
         λ j m. below-or j (l .i) (λ p. l .inv .1 .1 j p)
-            (λ p. subst (λ (j : ℕ). liesIn (a .a) (getD (a .t1) j (record { base = 0; length = 0 })) ≡ false) (let z : l .i ≡ j = omega arith in z) q),
+            (λ p. subst (λ (j : ℕ). liesIn (a .a) (getD (a .t1) j (record { base = 0; length = 0 })) ≡ false)
+            (let z : l .i ≡ j = omega arith in z) q),
       ),
     )
 
@@ -75,7 +79,9 @@ returns-2 c =
     let e : length (a .t1) ≡ 8 = omega arith in
     let k = looked (a .t1) (a .used) (n .result) e (n .ensures) in
     let l = c .before .loop in
-    sym (rw (k .same) at (any-none (liesIn (a .a)) (a .t1) (n .result) (record { base = 0; length = 0 }) (k .inside) (λ j m. l .inv .1 .1 j (omega arith))))
+    sym (rw (k .same) at
+    (any-none (liesIn (a .a)) (a .t1) (n .result) (record { base = 0; length = 0 }) (k .inside)
+    (λ j m. l .inv .1 .1 j (omega arith))))
 
 pub lies-in-one-spec : {M : Type 1} → statement M
 lies-in-one-spec =

@@ -1,6 +1,6 @@
 -- `fill` fills one row after the other.
 use Rattle.store.proofs.BeginningLaws.{Filled, filled-none, filled-more, filled-all}
-use Prim.Native.Nat.{ℕ, _≤_, _-_}
+use Prim.Native.Nat.{_≤_, _-_}
 use mathlib.Core.Path.{_≡_, sym, _∙_}
 use native.Mathlib.Omega.{arith}
 use borrow.Author.Needs.{needs}

@@ -3,7 +3,7 @@ use Rattle.rules.specs.Counters.{configured}
 use Rattle.rules.specs.Tables.{CounterFine}
 use Rattle.rules.specs.declared.records.Counter.{Counter}
 use Rattle.rules.proofs.Logic.{false-true}
-use mathlib.Core.Path.{_≡_, refl, sym, subst, _∙_, ap}
+use mathlib.Core.Path.{refl, sym, subst}
 use Prim.Native.Nat.{ℕ, _≤_}
 use borrow.Author.Needs.{needs}
 use Rattle.store.proofs.counters.configure_counter.Statement.{statement}
@@ -25,7 +25,8 @@ write-counter-requires c κs =
     (k .0, (k .1 .0, subst CounterFine (sym (c .configured .ensures)) (fine _ _ _ (k .1 .1))))
 
 returns : tie.Need-returns
-returns c = rw (c .before .configured .ensures, c .before .before .read-counter .ensures) at (c .write-counter .ensures)
+returns c =
+    rw (c .before .configured .ensures, c .before .before .read-counter .ensures) at (c .write-counter .ensures)
 
 pub configure-counter-spec : {M : Type 1} → statement M
 configure-counter-spec =

@@ -1,9 +1,9 @@
 -- `count_row` counts one counter after the other, with what is left of the control word beside it.
 use Rattle.store.proofs.CountLaws.{countedTo, counted-held, start, turn-hit, turn-miss, turn-rest}
 use Rattle.store.proofs.ByteLaws.{past}
-use Prim.Native.Nat.{ℕ, _≤_, _-_, _+_, _/_}
+use Prim.Native.Nat.{_≤_, _-_}
 use lib.ListN.{getD}
-use mathlib.Core.Path.{_≡_, refl, sym, _∙_, ap}
+use mathlib.Core.Path.{_≡_}
 use mathlib.Core.Logic.{⊎-elim}
 use native.Mathlib.Numerals.{add-one}
 use native.Mathlib.Omega.{arith}

@@ -31,7 +31,8 @@ unfolding counterIn
 returns c =
     let a = c .before .before .before .before .args in
     let k = c .before .before .before .before .pre in
-    c .counter-of .ensures ∙ ap (λ (b : ℕ). counterOf b (getD (a .r .now) (4 + a .i) 0)) (c .before .before .byte-of .ensures)
+    c .counter-of .ensures
+    ∙ ap (λ (b : ℕ). counterOf b (getD (a .r .now) (4 + a .i) 0)) (c .before .before .byte-of .ensures)
     ∙ sym (counter-at (a .r .now) (a .i) k)
 
 pub read-counter-spec : {M : Type 1} → statement M

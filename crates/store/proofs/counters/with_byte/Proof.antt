@@ -1,6 +1,6 @@
 -- `with_byte` takes the old byte away and adds the new one.
 use Rattle.store.proofs.ByteLaws.{taken-under, put-is, with-small}
-use Prim.Native.Nat.{ℕ, _<_, _^_}
+use Prim.Native.Nat.{_<_, _^_}
 use native.Mathlib.Omega.{arith}
 use borrow.Author.Needs.{needs}
 use Rattle.store.proofs.counters.with_byte.Statement.{statement}
@@ -32,14 +32,23 @@ mul-result-2 c =
     let a = c .before .args in
     let k = c .before .pre in
     let s : a .w < 2 ^ 64 = omega arith in
-    omega (arith, taken-under (a .w) (a .i) (a .b) (c .byte-of .result) (k .0) (c .byte-of .ensures), put-is (a .w) (a .i) (a .b) (c .byte-of .result) (k .0) (c .byte-of .ensures), with-small (a .b) (k .1) (a .w) (a .i) (k .0) s)
+    omega (
+      arith,
+      taken-under (a .w) (a .i) (a .b) (c .byte-of .result) (k .0) (c .byte-of .ensures),
+      put-is (a .w) (a .i) (a .b) (c .byte-of .result) (k .0) (c .byte-of .ensures),
+      with-small (a .b) (k .1) (a .w) (a .i) (k .0) s,
+    )
 
 add-result : tie.Need-add-result
 add-result c =
     let a = c .before .args in
     let k = c .before .pre in
     let s : a .w < 2 ^ 64 = omega arith in
-    omega (arith, put-is (a .w) (a .i) (a .b) (c .byte-of .result) (k .0) (c .byte-of .ensures), with-small (a .b) (k .1) (a .w) (a .i) (k .0) s)
+    omega (
+      arith,
+      put-is (a .w) (a .i) (a .b) (c .byte-of .result) (k .0) (c .byte-of .ensures),
+      with-small (a .b) (k .1) (a .w) (a .i) (k .0) s,
+    )
 
 returns : tie.Need-returns
 returns c =

@@ -13,7 +13,10 @@ control-of-requires : tie.Need-control-of-requires
 control-of-requires c κs = search needs
 
 with-byte-requires : tie.Need-with-byte-requires
-with-byte-requires c κs = (c .before .before .pre .1 .0, omega (arith, control-small (c .before .before .args .c) (c .before .before .pre .1 .1), c .control-of .ensures))
+with-byte-requires c κs = (
+  c .before .before .pre .1 .0,
+  omega (arith, control-small (c .before .before .args .c) (c .before .before .pre .1 .1), c .control-of .ensures),
+)
 
 element-write-r : tie.Need-element-write-r
 element-write-r c = search needs
@@ -33,7 +36,8 @@ returns c =
     let a = c .before .before .before .args in
     let k = c .before .before .before .pre in
     let v : a .c .value < 2 ^ 64 = omega arith in
-    rw (c .with-byte .ensures, c .before .control-of .ensures) (counter-held (a .r .now) (a .i) (a .c) (k .1 .0) (k .0) (k .1 .1) v)
+    rw (c .with-byte .ensures, c .before .control-of .ensures)
+    (counter-held (a .r .now) (a .i) (a .c) (k .1 .0) (k .0) (k .1 .1) v)
 
 pub write-counter-spec : {M : Type 1} → statement M
 write-counter-spec =

@@ -1,9 +1,7 @@
 -- `configure` writes the hart's row.
 use Rattle.store.proofs.ViewLaws.{alter-own-holds}
 use Rattle.store.specs.Seen.{rowOf}
-use Rattle.rules.specs.Tables.{counterAt}
-use Rattle.rules.specs.Counters.{configured}
-use lib.ListN.{set}
+use Rattle.store.specs.Sets.{configureAt}
 use borrow.Author.Needs.{needs}
 use Rattle.store.proofs.keeping.configure.Statement.{statement}
 use Rattle.store.proofs.keeping.configure.Tie as tie
@@ -24,7 +22,7 @@ returns c =
     let a = c .before .before .args in
     let k = c .before .before .pre in
     alter-own-holds (a .t .now) (k .1 .1 .1) (a .h) (k .0)
-    (λ cs. set cs (a .i) (configured (a .flags) (a .code) (counterAt cs (a .i)))) _ (c .configure-counter .ensures)
+    (configureAt (a .flags) (a .code) (a .i)) _ (c .configure-counter .ensures)
 
 pub configure-spec : {M : Type 1} → statement M
 configure-spec =

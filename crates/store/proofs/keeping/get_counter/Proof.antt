@@ -21,7 +21,8 @@ returns : tie.Need-returns
 returns c =
     let a = c .before .before .args in
     let k = c .before .before .pre in
-    c .read-counter .ensures ∙ ap (λ (cs : List Counter). counterAt cs (a .i)) (sym (own-seen (a .t .now) (k .1 .1) (a .h) (k .0)))
+    c .read-counter .ensures
+    ∙ ap (λ (cs : List Counter). counterAt cs (a .i)) (sym (own-seen (a .t .now) (k .1 .1) (a .h) (k .0)))
 
 pub get-counter-spec : {M : Type 1} → statement M
 get-counter-spec =

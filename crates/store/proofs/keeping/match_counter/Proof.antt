@@ -23,7 +23,8 @@ returns c =
     let a = c .before .before .args in
     let k = c .before .before .pre in
     c .row-match .ensures
-    ∙ ap (λ (cs : List Counter). numberOf (chosen (a .flags) cs (setOf (a .s)))) (sym (own-seen (a .t .now) (k .1) (a .h) (k .0)))
+    ∙ ap (λ (cs : List Counter). numberOf (chosen (a .flags) cs (setOf (a .s))))
+    (sym (own-seen (a .t .now) (k .1) (a .h) (k .0)))
 
 pub match-counter-spec : {M : Type 1} → statement M
 match-counter-spec =

@@ -21,14 +21,16 @@ start-row-requires c κs =
     let k = c .before .pre in
     let cs = own-seen (a .t .now) (k .1 .0) (a .h) (k .0) in (
       rowOf (a .t .now) (k .1 .0) (a .h) (k .0),
-      subst (Kept (begun (a .flags) (a .initial)) (a .s)) cs (begun-kept _ (k .1 .1 .0) (a .s) (a .flags) (a .initial) (k .1 .1 .1)),
+      subst (Kept (begun (a .flags) (a .initial)) (a .s)) cs
+          (begun-kept _ (k .1 .1 .fine) (a .s) (a .flags) (a .initial) (k .1 .1 .mapped)),
     )
 
 returns : tie.Need-returns
 returns c =
     let a = c .before .before .args in
     let k = c .before .before .pre in
-    alter-own-holds (a .t .now) (k .1 .0) (a .h) (k .0) (each (begun (a .flags) (a .initial)) (setOf (a .s))) _ (c .start-row .ensures)
+    alter-own-holds (a .t .now) (k .1 .0) (a .h) (k .0) (each (begun (a .flags) (a .initial)) (setOf (a .s))) _
+    (c .start-row .ensures)
 
 pub start-set-spec : {M : Type 1} → statement M
 start-set-spec = tie.close (tie.spec mul-start-row index-1-start-row start-row-requires returns)

@@ -28,7 +28,8 @@ returns : tie.Need-returns
 returns c =
     let a = c .before .before .args in
     let k = c .before .before .pre in
-    alter-own-holds (a .t .now) (k .1 .0) (a .h) (k .0) (each (ended (a .flags)) (setOf (a .s))) _ (c .stop-row .ensures)
+    alter-own-holds (a .t .now) (k .1 .0) (a .h) (k .0) (each (ended (a .flags)) (setOf (a .s))) _
+    (c .stop-row .ensures)
 
 pub stop-set-spec : {M : Type 1} → statement M
 stop-set-spec = tie.close (tie.spec mul-stop-row index-1-stop-row stop-row-requires returns)

@@ -1,7 +1,6 @@
 -- `pack` writes the three words of a record.
 use Rattle.store.proofs.RowLaws.{note-small, withHart, hart-held}
 use native.Mathlib.Omega.{arith}
-use mathlib.Core.Path.{_≡_}
 use Prim.Native.Nat.{_<_, _^_}
 use borrow.Author.Needs.{needs}
 use Rattle.store.proofs.records.pack.Statement.{statement}

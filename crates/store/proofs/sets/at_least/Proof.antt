@@ -1,6 +1,6 @@
 -- `at_least` looks at one byte after the other.
 use Rattle.store.proofs.KindLaws.{Marked, marked-none, marked-small, marked-under, marked-more}
-use Prim.Native.Nat.{ℕ, _≤_, _-_}
+use Prim.Native.Nat.{_≤_, _-_}
 use mathlib.Core.Path.{_≡_}
 use native.Mathlib.Omega.{arith}
 use borrow.Author.Needs.{needs}
@@ -25,7 +25,11 @@ add-m c =
     let l = c .before .before .loop in
     let k = l .inv .1 in
     let s = marked-small (a .w) (a .b) (l .i) (l .m) (l .rest) (l .place) k (omega arith) in
-    omega (arith, s, marked-under (a .w) (a .b) (l .i) (l .m) (l .rest) (l .place) k (c .choose .result) (c .choose .ensures))
+    omega (
+      arith,
+      s,
+      marked-under (a .w) (a .b) (l .i) (l .m) (l .rest) (l .place) k (c .choose .result) (c .choose .ensures),
+    )
 
 mul-place : tie.Need-mul-place Inv-loop μ-loop
 mul-place c =

@@ -19,7 +19,9 @@ within-requires c κs = search needs
 returns : tie.Need-returns
 returns c =
     let a = c .before .before .args in
-    c .within .ensures ∙ ap (λ (m : ℕ). eqb (bitAnd (bitAnd (a .s) 255) m) (bitAnd (a .s) 255)) (c .before .mapped-in .ensures)
+    c .within
+    .ensures ∙ ap (λ (m : ℕ). eqb (bitAnd (bitAnd (a .s) 255) m) (bitAnd (a .s) 255)) (c .before .mapped-in
+    .ensures)
     ∙ within-is (a .s) (isMapped (countersIn (a .r .now)))
 
 pub row-all-mapped-spec : {M : Type 1} → statement M

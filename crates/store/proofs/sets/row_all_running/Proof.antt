@@ -19,7 +19,9 @@ within-requires c κs = search needs
 returns : tie.Need-returns
 returns c =
     let a = c .before .before .args in
-    c .within .ensures ∙ ap (λ (m : ℕ). eqb (bitAnd (bitAnd (a .s) 255) m) (bitAnd (a .s) 255)) (c .before .running-in .ensures)
+    c .within
+    .ensures ∙ ap (λ (m : ℕ). eqb (bitAnd (bitAnd (a .s) 255) m) (bitAnd (a .s) 255)) (c .before .running-in
+    .ensures)
     ∙ within-is (a .s) (isRunning (countersIn (a .r .now)))
 
 pub row-all-running-spec : {M : Type 1} → statement M

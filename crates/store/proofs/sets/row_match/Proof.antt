@@ -22,13 +22,16 @@ choose-requires : tie.Need-choose-requires
 choose-requires c κs = search needs
 
 cast-result : tie.Need-cast-result
-cast-result c = omega (arith, trailing-le 64 (bitOr (bitAnd (c .before .before .before .args .s) (c .choose .result)) 256))
+cast-result c =
+    omega (arith, trailing-le 64 (bitOr (bitAnd (c .before .before .before .args .s) (c .choose .result)) 256))
 
 returns : tie.Need-returns
 returns c =
     let a = c .before .before .before .args in
     match-is (a .flags) (a .s) (countersIn (a .r .now)) (c .choose .result)
-    (c .choose .ensures ∙ ap₂ (λ (b : Bool) (m : ℕ). if b then 255 else m) (c .before .before .bit-of .ensures) (c .before .idle-in .ensures))
+    (c .choose .ensures
+    ∙ ap₂ (λ (b : Bool) (m : ℕ). if b then 255 else m) (c .before .before .bit-of .ensures) (c .before .idle-in
+    .ensures))
 
 pub row-match-spec : {M : Type 1} → statement M
 row-match-spec =

@@ -19,7 +19,8 @@ within-requires c κs = search needs
 returns : tie.Need-returns
 returns c =
     let a = c .before .before .args in
-    c .within .ensures ∙ ap (λ (m : ℕ). eqb (bitAnd (bitAnd (a .s) 255) m) (bitAnd (a .s) 255)) (c .before .idle-in .ensures)
+    c .within
+    .ensures ∙ ap (λ (m : ℕ). eqb (bitAnd (bitAnd (a .s) 255) m) (bitAnd (a .s) 255)) (c .before .idle-in .ensures)
     ∙ within-is (a .s) (notRunning (countersIn (a .r .now)))
 
 pub row-none-running-spec : {M : Type 1} → statement M

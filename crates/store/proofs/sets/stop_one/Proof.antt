@@ -18,18 +18,21 @@ ended-requires c κs = search needs
 write-counter-requires : tie.Need-write-counter-requires
 write-counter-requires c κs =
     let k = c .before .before .before .before .before .before .pre in
-    let t = sym (c .before .before .before .before .before .bit-of .ensures) ∙ c .before .before .before .before .if1 .taken in
+    let t = sym (c .before .before .before .before .before .bit-of .ensures)
+    ∙ c .before .before .before .before .if1 .taken in
     (k .0, (k .1 .0, subst CounterFine (sym (c .ended .ensures)) (rw (c .before .read-counter .ensures) (k .1 .1 t))))
 
 returns : tie.Need-returns
 returns c =
-    let t = sym (c .before .before .before .before .before .before .bit-of .ensures) ∙ c .before .before .before .before .before .if1 .taken in
-    rw (if-true _ _ t) (rw (c .before .ended .ensures, c .before .before .read-counter .ensures) at (c .write-counter .ensures))
+    let t = sym (c .before .before .before .before .before .before .bit-of .ensures)
+    ∙ c .before .before .before .before .before .if1 .taken in
+    rw (if-true _ _ t)
+    (rw (c .before .ended .ensures, c .before .before .read-counter .ensures) at (c .write-counter .ensures))
 
 returns-2 : tie.Need-returns-2
 returns-2 c =
     let t = sym (c .before .bit-of .ensures) ∙ c .if1 .left in
-    record { record′ = refl; own = sym (if-false _ _ t); fit = c .before .before .pre .0 }
+    record { hart = refl; own = sym (if-false _ _ t); fit = c .before .before .pre .0 }
 
 pub stop-one-spec : {M : Type 1} → statement M
 stop-one-spec =

@@ -2,7 +2,7 @@
 use Rattle.store.proofs.EachLaws.{upTo, still-kept, alters-more, alters-none}
 use Rattle.store.specs.Rows.{Alters}
 use Rattle.rules.specs.Counters.{ended}
-use Prim.Native.Nat.{ℕ, _≤_, _-_}
+use Prim.Native.Nat.{_≤_, _-_}
 use mathlib.Core.Path.{_≡_}
 use native.Mathlib.Omega.{arith}
 use borrow.Author.Needs.{needs}
@@ -21,8 +21,14 @@ loop-holds c = (search needs, alters-none _ _ _ (c .pre .0))
 stop-one-requires : tie.Need-stop-one-requires Inv-loop μ-loop
 stop-one-requires c κs =
     let a = c .before .before .before .args in
-    let l = c .before .before .loop in
-    (l .inv .1 .fit, (search needs, still-kept (ended (a .flags)) (a .s) (a .r .now) (l .r) (l .i) (l .inv .1) (omega arith) (c .before .before .before .pre .1)))
+    let l = c .before .before .loop in (
+      l .inv .1 .fit,
+      (
+        search needs,
+        still-kept (ended (a .flags)) (a .s) (a .r .now) (l .r) (l .i) (l .inv .1) (omega arith)
+            (c .before .before .before .pre .1),
+      ),
+    )
 
 add-i : tie.Need-add-i Inv-loop μ-loop
 add-i c = search needs
@@ -33,8 +39,10 @@ loop-less c = search needs
 loop-again : tie.Need-loop-again Inv-loop μ-loop
 loop-again c =
     let a = c .before .before .before .before .args in
-    let l = c .before .before .before .loop in
-    (search needs, alters-more (ended (a .flags)) (a .s) (a .r .now) (l .r) (l .i) (l .inv .1) _ (c .stop-one .ensures))
+    let l = c .before .before .before .loop in (
+      search needs,
+      alters-more (ended (a .flags)) (a .s) (a .r .now) (l .r) (l .i) (l .inv .1) _ (c .stop-one .ensures),
+    )
 
 returns : tie.Need-returns Inv-loop μ-loop
 returns c =

@@ -1,6 +1,5 @@
 -- `settle_row` unpacks the record, lends it to `settle`, and packs it.
 use Rattle.store.proofs.SettlingLaws.{completed-state}
-use Rattle.store.specs.Rows.{hartIn}
 use Rattle.store.specs.Settling.{completedOf}
 use Rattle.rules.specs.declared.records.Hart.{Hart}
 use Prim.Native.Nat.{_≤_}

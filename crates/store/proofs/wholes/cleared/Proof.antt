@@ -2,7 +2,7 @@
 use Rattle.store.proofs.TestLaws.{or-none}
 use Rattle.rules.specs.Sets.{every}
 use Rattle.rules.proofs.SetLaws.{every-none, every-more}
-use Prim.Native.Nat.{ℕ, _≤_, _-_, _+_}
+use Prim.Native.Nat.{_≤_, _-_, _+_}
 use lib.Dec.{eqb}
 use lib.ListN.{getD}
 use mathlib.Core.Bool.{Bool, _&&_}
@@ -39,8 +39,11 @@ loop-less c = search needs
 loop-again : tie.Need-loop-again Inv-loop μ-loop
 loop-again c =
     let l = c .before .before .loop in
-    let r = c .before .before .before .args .r .now in
-    (search needs, or-none (l .x) _ ∙ ap (λ (b : Bool). b && eqb (getD r (1 + l .i) 0) 0) (l .inv .1) ∙ sym (every-more _ (l .i)))
+    let r = c .before .before .before .args .r .now in (
+      search needs,
+      or-none (l .x) _ ∙ ap (λ (b : Bool). b && eqb (getD r (1 + l .i) 0) 0) (l .inv .1)
+          ∙ sym (every-more _ (l .i)),
+    )
 
 returns : tie.Need-returns Inv-loop μ-loop
 returns c =

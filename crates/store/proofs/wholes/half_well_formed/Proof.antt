@@ -1,12 +1,11 @@
 -- `half_well_formed` tests one row after the other.
 use Rattle.store.proofs.WholeLaws.{half-none, half-more}
-use Rattle.store.specs.Rows.{Fit}
 use Rattle.store.specs.Tests.{Half, rowWellFormed}
-use Prim.Native.Nat.{ℕ, _≤_, _-_, _+_}
+use Prim.Native.Nat.{_≤_, _-_, _+_}
 use lib.ListN.{getD}
 use mathlib.Core.Bool.{Bool}
+use mathlib.Core.Path.{_≡_, _∙_, ap}
 use mathlib.Core.List.{[]}
-use mathlib.Core.Path.{_≡_, sym, _∙_, ap, subst}
 use native.Mathlib.Omega.{arith}
 use borrow.Author.Needs.{needs}
 use Rattle.store.proofs.wholes.half_well_formed.Statement.{statement}
@@ -55,7 +54,8 @@ loop-again c =
     ∙ ap (λ (b : Bool). rowWellFormed b r) (c .before .before .before .bit-of .ensures) in (
       search needs,
       rw (c .both .ensures)
-          (half-more (a .enabled) (a .t .now) (a .from) (l .i) _ _ (l .inv .1) e (c .before .row-well-formed .ensures .1)),
+          (half-more (a .enabled) (a .t .now) (a .from) (l .i) _ _ (l .inv .1) e
+          (c .before .row-well-formed .ensures .1)),
     )
 
 returns : tie.Need-returns Inv-loop μ-loop

@@ -4,7 +4,7 @@ use Rattle.store.specs.Tests.{rowWellFormed}
 use lib.Dec.{eqb}
 use lib.ListN.{getD}
 use mathlib.Core.Bool.{Bool, _&&_}
-use mathlib.Core.Path.{_≡_, sym, _∙_, ap, ap₂}
+use mathlib.Core.Path.{sym, _∙_, ap, ap₂}
 use borrow.Author.Needs.{needs}
 use Rattle.store.proofs.wholes.row_well_formed.Statement.{statement}
 use Rattle.store.proofs.wholes.row_well_formed.Tie as tie

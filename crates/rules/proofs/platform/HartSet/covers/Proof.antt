@@ -1,6 +1,5 @@
 -- `HartSet::covers` tests the two words.
 use Rattle.rules.proofs.platform.HalfLaws.{subset-words}
-use mathlib.Core.Path.{_∙_, sym}
 use Prim.Native.Nat.{_<_, _^_}
 use native.Mathlib.Omega.{arith}
 use borrow.Author.Tests.{eq-eqb, ne-eqb}

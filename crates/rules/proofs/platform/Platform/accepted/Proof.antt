@@ -24,7 +24,8 @@ returns-2 : tie.Need-returns-2
 unfolding platformAccepted enabled hypervisor
 returns-2 c =
     let p = c .before .before .before .before .before .before .args .self in
-    let e1 = sym (c .before .before .before .before .before .is-enabled .ensures) ∙ not-false _ (c .before .before .before .before .if1 .left) in
+    let e1 = sym (c .before .before .before .before .before .is-enabled .ensures)
+    ∙ not-false _ (c .before .before .before .before .if1 .left) in
     let e2 = sym (c .before .covers .ensures) ∙ not-true _ (c .if2 .taken) in
     rw (e1, e2)
 
@@ -32,7 +33,8 @@ returns-3 : tie.Need-returns-3
 unfolding platformAccepted enabled hypervisor
 returns-3 c =
     let p = c .before .before .before .before .before .before .before .before .args .self in
-    let e1 = sym (c .before .before .before .before .before .before .before .is-enabled .ensures) ∙ not-false _ (c .before .before .before .before .before .before .if1 .left) in
+    let e1 = sym (c .before .before .before .before .before .before .before .is-enabled .ensures)
+    ∙ not-false _ (c .before .before .before .before .before .before .if1 .left) in
     let e2 = sym (c .before .before .before .covers .ensures) ∙ not-false _ (c .before .before .if2 .left) in
     let e3 = lt-leb (p .used) 8 (omega (arith, c .if3 .taken)) in
     rw (e1, e2, e3)
@@ -41,8 +43,10 @@ returns-4 : tie.Need-returns-4
 unfolding platformAccepted enabled hypervisor
 returns-4 c =
     let p = c .before .before .before .before .before .before .before .before .before .before .args .self in
-    let e1 = sym (c .before .before .before .before .before .before .before .before .before .is-enabled .ensures) ∙ not-false _ (c .before .before .before .before .before .before .before .before .if1 .left) in
-    let e2 = sym (c .before .before .before .before .before .covers .ensures) ∙ not-false _ (c .before .before .before .before .if2 .left) in
+    let e1 = sym (c .before .before .before .before .before .before .before .before .before .is-enabled .ensures)
+    ∙ not-false _ (c .before .before .before .before .before .before .before .before .if1 .left) in
+    let e2 = sym (c .before .before .before .before .before .covers .ensures)
+    ∙ not-false _ (c .before .before .before .before .if2 .left) in
     let e3 = le-leb (p .used) 8 (omega (arith, c .before .before .if3 .left)) in
     let e4 = lt-leb (p .asid) 16 (omega (arith, c .if4 .taken)) in
     rw (e1, e2, e3, e4)
@@ -50,9 +54,13 @@ returns-4 c =
 returns-5 : tie.Need-returns-5
 unfolding platformAccepted enabled hypervisor
 returns-5 c =
-    let p = c .before .before .before .before .before .before .before .before .before .before .before .before .args .self in
-    let e1 = sym (c .before .before .before .before .before .before .before .before .before .before .before .is-enabled .ensures) ∙ not-false _ (c .before .before .before .before .before .before .before .before .before .before .if1 .left) in
-    let e2 = sym (c .before .before .before .before .before .before .before .covers .ensures) ∙ not-false _ (c .before .before .before .before .before .before .if2 .left) in
+    let p = c .before .before .before .before .before .before .before .before .before .before .before .before .args
+    .self in
+    let e1 = sym
+    (c .before .before .before .before .before .before .before .before .before .before .before .is-enabled .ensures)
+    ∙ not-false _ (c .before .before .before .before .before .before .before .before .before .before .if1 .left) in
+    let e2 = sym (c .before .before .before .before .before .before .before .covers .ensures)
+    ∙ not-false _ (c .before .before .before .before .before .before .if2 .left) in
     let e3 = le-leb (p .used) 8 (omega (arith, c .before .before .before .before .if3 .left)) in
     let e4 = le-leb (p .asid) 16 (omega (arith, c .before .before .if4 .left)) in
     let e5 = lt-leb (p .vmid) 14 (omega (arith, c .if5 .taken)) in
@@ -64,9 +72,15 @@ all-accepted-requires c κs = search needs
 returns-6 : tie.Need-returns-6
 unfolding platformAccepted enabled hypervisor usedRanges
 returns-6 c =
-    let p = c .before .before .before .before .before .before .before .before .before .before .before .before .before .before .args .self in
-    let e1 = sym (c .before .before .before .before .before .before .before .before .before .before .before .before .before .is-enabled .ensures) ∙ not-false _ (c .before .before .before .before .before .before .before .before .before .before .before .before .if1 .left) in
-    let e2 = sym (c .before .before .before .before .before .before .before .before .before .covers .ensures) ∙ not-false _ (c .before .before .before .before .before .before .before .before .if2 .left) in
+    let p = c .before .before .before .before .before .before .before .before .before .before .before .before .before
+    .before .args .self in
+    let e1 = sym
+    (c .before .before .before .before .before .before .before .before .before .before .before .before .before
+    .is-enabled .ensures)
+    ∙ not-false _
+    (c .before .before .before .before .before .before .before .before .before .before .before .before .if1 .left) in
+    let e2 = sym (c .before .before .before .before .before .before .before .before .before .covers .ensures)
+    ∙ not-false _ (c .before .before .before .before .before .before .before .before .if2 .left) in
     let e3 = le-leb (p .used) 8 (omega (arith, c .before .before .before .before .before .before .if3 .left)) in
     let e4 = le-leb (p .asid) 16 (omega (arith, c .before .before .before .before .if4 .left)) in
     let e5 = le-leb (p .vmid) 14 (omega (arith, c .before .before .if5 .left)) in
