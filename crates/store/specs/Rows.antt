@@ -54,7 +54,10 @@ hartIn r = record {
   opaque = getD r opaqueAt 0;
 }
 
--- how a sleep note is kept beside the state
+-- the first word of a hart in a state with a retentive sleep note, and what another note adds
+abbrev pub stateWord : ℕ → ℕ
+stateWord s = 2 * (s + 1)
+
 abbrev pub noteOf : Bool → ℕ
 noteOf true = 0
 noteOf false = 1

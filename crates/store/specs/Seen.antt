@@ -9,17 +9,17 @@
 use mathlib.Core.Path.{_≡_}
 use mathlib.Core.Bool.{Bool, true, false}
 use mathlib.Core.List.{List, [], _∷_, map}
-use Prim.Native.Nat.{ℕ, _<_}
+use Prim.Native.Nat.{ℕ, _-_, _<_}
 use lib.Dec.{eqb}
 use lib.ListN.{getD, set, length, replicate}
 use Rattle.rules.specs.Choice.{if_then_else_}
-use Rattle.rules.specs.Names.{harts}
+use Rattle.rules.specs.Names.{harts, STARTED, STOPPED}
 use Rattle.rules.specs.Tables.{Tables, ownAt, fresh}
 use Rattle.rules.specs.Replies.{countAt}
 use Rattle.rules.specs.declared.platform.Platform.{Platform}
 use Rattle.rules.specs.declared.records.Hart.{Hart}
 use Rattle.rules.specs.declared.records.Counter.{Counter}
-use Rattle.store.specs.Rows.{hartIn, table, countersIn, Fit}
+use Rattle.store.specs.Rows.{words, stateWord, hartIn, table, countersIn, Fit}
 
 unfoldable pub seen : List (List ℕ) → Tables
 seen t = record { harts = map hartIn t; counters = map countersIn t }
@@ -59,7 +59,7 @@ pub record Holds (t : List (List ℕ)) (s : Tables) : Type 0 where
 
 -- the row of the boot hart, or of another
 abbrev pub freshRow : Bool → List ℕ
-freshRow boot = (if boot then 2 else 4) ∷ replicate 11 0
+freshRow boot = (if boot then stateWord STARTED else stateWord STOPPED) ∷ replicate (words - 1) 0
 
 abbrev pub freshRows : (boot : ℕ) → List (List ℕ)
 freshRows boot = table harts (λ h. freshRow (eqb h boot))

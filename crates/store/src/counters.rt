@@ -13,6 +13,7 @@ ghost use Rattle.store.specs.Sets.{configureAt};
 use crate::choice::choose;
 use crate::choice::either;
 use crate::rows::CONTROL;
+use crate::rows::COUNTERS;
 use crate::rows::RUNNING_CODE;
 use crate::rows::Row;
 use crate::rows::STOPPED_CODE;
@@ -124,7 +125,7 @@ pub fn count_row(r: &mut Row, code: u64)
 {
     let want = code + RUNNING_CODE;
     let mut control = r[CONTROL];
-    for i in 0..8 {
+    for i in 0..COUNTERS {
         if control % 256 == want {
             r[VALUES + i] = std::num::wrapping_add_u64(r[VALUES + i], 1);
         }

@@ -3,8 +3,16 @@
 // The number of harts.
 pub const HARTS: usize = 128;
 
-// The number of words in a row.
+// Half of them: as many as a word has bits.
+pub const HALF: usize = 64;
+
+// The number of counters of a hart.
+pub const COUNTERS: usize = 8;
+
+// The number of words in a row, and of those past the first.
 pub const WORDS: usize = 12;
+
+pub const REST: usize = 11;
 
 // Word 0: 2 * (state + 1), and 1 more if the sleep is not retentive, so that cleared memory holds
 // no state. Then the sleep note's address and opaque.

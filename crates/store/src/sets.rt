@@ -12,6 +12,7 @@ use crate::choice::choose;
 use crate::counters::read_counter;
 use crate::counters::write_counter;
 use crate::rows::CONTROL;
+use crate::rows::COUNTERS;
 use crate::rows::RUNNING_CODE;
 use crate::rows::Row;
 use crate::rows::STOPPED_CODE;
@@ -30,7 +31,7 @@ fn at_least(w: u64, b: u64) -> u64
     let mut m = 0;
     let mut rest = w;
     let mut place = 1;
-    for i in 0u64..8 {
+    for i in 0..COUNTERS {
         m = m + choose(b <= rest % 256, place, 0);
         rest = rest / 256;
         place = place * 2;
@@ -156,7 +157,7 @@ pub fn start_row(r: &mut Row, s: u64, flags: u64, initial: u64)
     ensures { λ _. ⌜ Alters (now (r .entry)) (now (r .exit))
         (each (begun flags initial) (setOf s)) ⌝ }
 {
-    for i in 0..8 {
+    for i in 0..COUNTERS {
         start_one(r, i, s, flags, initial);
     }
 }
@@ -166,7 +167,7 @@ pub fn stop_row(r: &mut Row, s: u64, flags: u64)
     requires { ⌜ Fit (now r) × Kept (ended flags) s (countersIn (now r)) ⌝ }
     ensures { λ _. ⌜ Alters (now (r .entry)) (now (r .exit)) (each (ended flags) (setOf s)) ⌝ }
 {
-    for i in 0..8 {
+    for i in 0..COUNTERS {
         stop_one(r, i, s, flags);
     }
 }

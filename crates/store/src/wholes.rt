@@ -1,7 +1,7 @@
 // The test of whole tables, on their words. It has no early exit, so that it also tells the shape
 // of every row.
 ghost use mathlib.Core.Path.{_≡_};
-ghost use Prim.Native.Nat.{ℕ, _+_, _<_, _≤_, _^_};
+ghost use Prim.Native.Nat.{ℕ, _+_, _-_, _<_, _≤_, _^_};
 ghost use lib.Dec.{eqb, leb};
 ghost use lib.ListN.{length, getD};
 ghost use Rattle.rules.specs.Names.{harts, counters};
@@ -12,6 +12,8 @@ ghost use Rattle.store.specs.Tests.{rowWellFormed, Half};
 ghost use Rattle.store.specs.Seen.{seen, Shaped};
 use crate::choice::both;
 use crate::rows::CONTROL;
+use crate::rows::HALF;
+use crate::rows::REST;
 use crate::rows::Row;
 use crate::rows::Rows;
 use crate::rows::STATE;
@@ -45,10 +47,10 @@ fn controls(w: u64) -> bool
 // Whether each word but the first is 0.
 fn cleared(r: &[u64]) -> bool
     requires { ⌜ length (now r) ≡ words ⌝ }
-    ensures { λ b. ⌜ b ≡ every 11 (λ i. eqb (getD (now (r .entry)) (1 + i) 0) 0) ⌝ }
+    ensures { λ b. ⌜ b ≡ every (words - 1) (λ i. eqb (getD (now (r .entry)) (1 + i) 0) 0) ⌝ }
 {
     let mut x = 0;
-    for i in 0..11 {
+    for i in 0..REST {
         x = x | r[1 + i];
     }
     x == 0
@@ -84,7 +86,7 @@ fn half_well_formed(enabled: u64, t: &[Row], from: usize) -> bool
     ensures { λ b. ⌜ Half enabled (now (t .entry)) from 64 b ⌝ }
 {
     let mut fine = true;
-    for i in 0..64 {
+    for i in 0..HALF {
         let on = bit_of(enabled, i as u64);
         fine = both(fine, row_well_formed(&t[from + i], on));
     }
@@ -98,7 +100,7 @@ fn all_well_formed(p: Platform, t: &[Row]) -> bool
     let set = p.enabled;
     both(
         half_well_formed(set.low, t, 0),
-        half_well_formed(set.high, t, 64),
+        half_well_formed(set.high, t, HALF),
     )
 }
 
