@@ -16,9 +16,9 @@ use Rattle.rules.specs.Choice.{if_then_else_}
 use Rattle.rules.specs.Replies.{counted}
 use Rattle.rules.specs.declared.records.Counter.{Counter}
 use Rattle.rules.proofs.Logic.{if-true, if-false, if-both, by-cases}
-use Rattle.store.specs.Rows.{byte, hartIn, counterOf, counterIn, countersIn, Fit, Held}
+use Rattle.store.specs.Rows.{byte, hartIn, counterOf, counterIn, countersIn, Fit, Held, Alters}
 use Rattle.store.proofs.ListLaws.{table-ext, table-map}
-use Rattle.store.proofs.ByteLaws.{past, byte-past, past-none, past-more}
+use Rattle.store.proofs.ByteLaws.{past, byte-past, byte-none, past-none, past-more}
 use Rattle.store.proofs.RowLaws.{fit-set, of-none, of-stopped, of-running, kinds}
 
 unfoldable pub countedOne : List ℕ → ℕ → ℕ → List ℕ
@@ -157,3 +157,20 @@ module _ (r : List ℕ) (i e w : ℕ) (q : w ≡ past (getD r 3 0) i) where
 
   pub turn-rest : w / 256 ≡ past (getD r 3 0) (suc i)
   turn-rest = ap (λ (n : ℕ). n / 256) q ∙ sym (past-more (getD r 3 0) i)
+
+-- ----- where no counter is mapped, none counts
+
+pub none-mapped : (r : List ℕ) (e : ℕ) → Fit r → getD r 3 0 ≡ 0 → Alters r r (map (counted e))
+unfolding countersIn counterIn
+none-mapped r e k z = record {
+  hart = refl;
+  own = sym (table-map (counted e) 8 (counterIn r) ∙ table-ext 8 (λ i. counted e (counterIn r i)) (counterIn r) unmapped);
+  fit = k;
+}
+  where
+    unmapped : (i : ℕ) → i < 8 → counted e (counterIn r i) ≡ counterIn r i
+    unmapped i l =
+        let b = byte (getD r 3 0) i in
+        let v = getD r (4 + i) 0 in
+        let q : b ≡ 0 = ap (λ (w : ℕ). byte w i) z ∙ byte-none i in
+        counted-of b e v ∙ ap (counterOf b) (miss b e v (omega arith))

@@ -125,6 +125,9 @@ pub fn count_row(r: &mut Row, code: u64)
 {
     let want = code + RUNNING_CODE;
     let mut control = r[CONTROL];
+    if control == 0 {
+        return;
+    }
     for i in 0..COUNTERS {
         if control % 256 == want {
             r[VALUES + i] = std::num::wrapping_add_u64(r[VALUES + i], 1);
