@@ -17,15 +17,15 @@ begun-requires c κs = search needs
 
 write-counter-requires : tie.Need-write-counter-requires
 write-counter-requires c κs =
-    let k = c .before .before .before .before .before .before .pre in
-    let t = sym (c .before .before .before .before .before .bit-of .ensures)
-    ∙ c .before .before .before .before .if1 .taken in
+    let at = c .before .before .before .before in
+    let t = sym (at .before .bit-of .ensures) ∙ at .if1 .taken in
+    let k = at .before .before .pre in
     (k .0, (k .1 .0, subst CounterFine (sym (c .begun .ensures)) (rw (c .before .read-counter .ensures) (k .1 .1 t))))
 
 returns : tie.Need-returns
 returns c =
-    let t = sym (c .before .before .before .before .before .before .bit-of .ensures)
-    ∙ c .before .before .before .before .before .if1 .taken in
+    let at = c .before .before .before .before .before in
+    let t = sym (at .before .bit-of .ensures) ∙ at .if1 .taken in
     rw (if-true _ _ t)
     (rw (c .before .begun .ensures, c .before .before .read-counter .ensures) at (c .write-counter .ensures))
 

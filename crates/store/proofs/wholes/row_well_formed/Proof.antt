@@ -29,13 +29,13 @@ both-requires-2 c κs = search needs
 
 returns : tie.Need-returns
 returns c =
-    let r = c .before .before .before .before .before .before .before .before .args .r .now in
-    let word = c .before .before .before .before .before .before .small .ensures in
-    let size = c .before .before .before .before .before .before .before .small-arg .given .0 in (
+    let at = c .before .before .before .before in
+    let told = at .before .before in
+    let r = told .before .before .args .r .now in (
       c .both2 .ensures
           ∙ ap₂ (λ (x y : Bool). x && y) (c .before .before .before .both .ensures) (c .before .controls .ensures)
-          ∙ sym (ap (λ (b : Bool). rowWellFormed b r) (c .before .before .before .before .if1 .taken) ∙ row-on r),
-      record { size = size; small = word },
+          ∙ sym (ap (λ (b : Bool). rowWellFormed b r) (at .if1 .taken) ∙ row-on r),
+      record { size = told .before .small-arg .given .0; small = told .small .ensures },
     )
 
 cleared-requires : tie.Need-cleared-requires
@@ -46,12 +46,12 @@ both-requires-3 c κs = search needs
 
 returns-2 : tie.Need-returns-2
 returns-2 c =
-    let r = c .before .before .before .before .before .before .before .args .r .now in
-    let word = c .before .before .before .before .before .small .ensures in
-    let size = c .before .before .before .before .before .before .small-arg .given .0 in (
+    let at = c .before .before .before in
+    let told = at .before .before in
+    let r = told .before .before .args .r .now in (
       c .both3 .ensures ∙ ap (λ (x : Bool). eqb (getD r 0 0) 4 && x) (c .before .cleared .ensures)
-          ∙ sym (ap (λ (b : Bool). rowWellFormed b r) (c .before .before .before .if1 .left) ∙ row-off r (word 3)),
-      record { size = size; small = word },
+          ∙ sym (ap (λ (b : Bool). rowWellFormed b r) (at .if1 .left) ∙ row-off r (told .small .ensures 3)),
+      record { size = told .before .small-arg .given .0; small = told .small .ensures },
     )
 
 pub row-well-formed-spec : {M : Type 1} → statement M

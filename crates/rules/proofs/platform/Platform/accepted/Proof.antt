@@ -13,7 +13,6 @@ is-enabled-requires c κs = search needs
 returns : tie.Need-returns
 unfolding platformAccepted enabled hypervisor
 returns c =
-    let p = c .before .before .args .self in
     let e1 = sym (c .before .is-enabled .ensures) ∙ not-true _ (c .if1 .taken) in
     rw (e1)
 
@@ -23,46 +22,47 @@ covers-requires c κs = search needs
 returns-2 : tie.Need-returns-2
 unfolding platformAccepted enabled hypervisor
 returns-2 c =
-    let p = c .before .before .before .before .before .before .args .self in
-    let e1 = sym (c .before .before .before .before .before .is-enabled .ensures)
-    ∙ not-false _ (c .before .before .before .before .if1 .left) in
+    let at1 = c .before .before .before .before in
+    let e1 = sym (at1 .before .is-enabled .ensures) ∙ not-false _ (at1 .if1 .left) in
     let e2 = sym (c .before .covers .ensures) ∙ not-true _ (c .if2 .taken) in
     rw (e1, e2)
 
 returns-3 : tie.Need-returns-3
 unfolding platformAccepted enabled hypervisor
 returns-3 c =
-    let p = c .before .before .before .before .before .before .before .before .args .self in
-    let e1 = sym (c .before .before .before .before .before .before .before .is-enabled .ensures)
-    ∙ not-false _ (c .before .before .before .before .before .before .if1 .left) in
-    let e2 = sym (c .before .before .before .covers .ensures) ∙ not-false _ (c .before .before .if2 .left) in
+    let at2 = c .before .before in
+    let at1 = at2 .before .before .before .before in
+    let p = at1 .before .before .args .self in
+    let e1 = sym (at1 .before .is-enabled .ensures) ∙ not-false _ (at1 .if1 .left) in
+    let e2 = sym (at2 .before .covers .ensures) ∙ not-false _ (at2 .if2 .left) in
     let e3 = lt-leb (p .used) 8 (omega (arith, c .if3 .taken)) in
     rw (e1, e2, e3)
 
 returns-4 : tie.Need-returns-4
 unfolding platformAccepted enabled hypervisor
 returns-4 c =
-    let p = c .before .before .before .before .before .before .before .before .before .before .args .self in
-    let e1 = sym (c .before .before .before .before .before .before .before .before .before .is-enabled .ensures)
-    ∙ not-false _ (c .before .before .before .before .before .before .before .before .if1 .left) in
-    let e2 = sym (c .before .before .before .before .before .covers .ensures)
-    ∙ not-false _ (c .before .before .before .before .if2 .left) in
-    let e3 = le-leb (p .used) 8 (omega (arith, c .before .before .if3 .left)) in
+    let at3 = c .before .before in
+    let at2 = at3 .before .before in
+    let at1 = at2 .before .before .before .before in
+    let p = at1 .before .before .args .self in
+    let e1 = sym (at1 .before .is-enabled .ensures) ∙ not-false _ (at1 .if1 .left) in
+    let e2 = sym (at2 .before .covers .ensures) ∙ not-false _ (at2 .if2 .left) in
+    let e3 = le-leb (p .used) 8 (omega (arith, at3 .if3 .left)) in
     let e4 = lt-leb (p .asid) 16 (omega (arith, c .if4 .taken)) in
     rw (e1, e2, e3, e4)
 
 returns-5 : tie.Need-returns-5
 unfolding platformAccepted enabled hypervisor
 returns-5 c =
-    let p = c .before .before .before .before .before .before .before .before .before .before .before .before .args
-    .self in
-    let e1 = sym
-    (c .before .before .before .before .before .before .before .before .before .before .before .is-enabled .ensures)
-    ∙ not-false _ (c .before .before .before .before .before .before .before .before .before .before .if1 .left) in
-    let e2 = sym (c .before .before .before .before .before .before .before .covers .ensures)
-    ∙ not-false _ (c .before .before .before .before .before .before .if2 .left) in
-    let e3 = le-leb (p .used) 8 (omega (arith, c .before .before .before .before .if3 .left)) in
-    let e4 = le-leb (p .asid) 16 (omega (arith, c .before .before .if4 .left)) in
+    let at4 = c .before .before in
+    let at3 = at4 .before .before in
+    let at2 = at3 .before .before in
+    let at1 = at2 .before .before .before .before in
+    let p = at1 .before .before .args .self in
+    let e1 = sym (at1 .before .is-enabled .ensures) ∙ not-false _ (at1 .if1 .left) in
+    let e2 = sym (at2 .before .covers .ensures) ∙ not-false _ (at2 .if2 .left) in
+    let e3 = le-leb (p .used) 8 (omega (arith, at3 .if3 .left)) in
+    let e4 = le-leb (p .asid) 16 (omega (arith, at4 .if4 .left)) in
     let e5 = lt-leb (p .vmid) 14 (omega (arith, c .if5 .taken)) in
     rw (e1, e2, e3, e4, e5)
 
@@ -72,18 +72,17 @@ all-accepted-requires c κs = search needs
 returns-6 : tie.Need-returns-6
 unfolding platformAccepted enabled hypervisor usedRanges
 returns-6 c =
-    let p = c .before .before .before .before .before .before .before .before .before .before .before .before .before
-    .before .args .self in
-    let e1 = sym
-    (c .before .before .before .before .before .before .before .before .before .before .before .before .before
-    .is-enabled .ensures)
-    ∙ not-false _
-    (c .before .before .before .before .before .before .before .before .before .before .before .before .if1 .left) in
-    let e2 = sym (c .before .before .before .before .before .before .before .before .before .covers .ensures)
-    ∙ not-false _ (c .before .before .before .before .before .before .before .before .if2 .left) in
-    let e3 = le-leb (p .used) 8 (omega (arith, c .before .before .before .before .before .before .if3 .left)) in
-    let e4 = le-leb (p .asid) 16 (omega (arith, c .before .before .before .before .if4 .left)) in
-    let e5 = le-leb (p .vmid) 14 (omega (arith, c .before .before .if5 .left)) in
+    let at5 = c .before .before in
+    let at4 = at5 .before .before in
+    let at3 = at4 .before .before in
+    let at2 = at3 .before .before in
+    let at1 = at2 .before .before .before .before in
+    let p = at1 .before .before .args .self in
+    let e1 = sym (at1 .before .is-enabled .ensures) ∙ not-false _ (at1 .if1 .left) in
+    let e2 = sym (at2 .before .covers .ensures) ∙ not-false _ (at2 .if2 .left) in
+    let e3 = le-leb (p .used) 8 (omega (arith, at3 .if3 .left)) in
+    let e4 = le-leb (p .asid) 16 (omega (arith, at4 .if4 .left)) in
+    let e5 = le-leb (p .vmid) 14 (omega (arith, at5 .if5 .left)) in
     rw (e1, e2, e3, e4, e5) (c .all-accepted .ensures)
 
 pub accepted-spec : {M : Type 1} → statement M
