@@ -12,6 +12,7 @@ pub mod HartWays
 pub mod CounterWays
 pub mod RequestWays
 pub mod HostWays
+pub mod HostOrder
 pub mod Tracks
 pub mod Accepts
 pub mod Demand3

@@ -1,10 +1,11 @@
 -- A theorem for each statement of specs/Promises, under its name. Assumes nothing.
 use mathlib.Core.Path.{refl}
-use Rattle.rules.specs.Promises.{CounterSetsExact, LivesHold, ReadOnce, RefusalsAlterNothing, RefusalsListed}
+use Rattle.rules.specs.Promises.{HostRefusalsInOrder, LivesHold, ReadOnce, RefusalsAlterNothing, RefusalsListed}
 use Rattle.rules.specs.Promises.{PlatformTestAgrees, TablesTestAgrees, FreshWellFormed, WellFormedKept}
-use Rattle.rules.specs.Promises.{MasksExact, CallsReachExactly, EventsAddOne, EventsCounted}
-use Rattle.rules.specs.Promises.{TrafficCountedExactly, CountersOutliveStates, CountersApart, EdgesHold}
-use Rattle.rules.specs.Promises.{RegisterValues}
+use Rattle.rules.specs.Promises.{CountersApart, EdgesHold, RegisterValues}
+use Rattle.rules.specs.Counting.{CounterSetsExact, EventsAddOne, EventsCounted, TrafficCountedExactly}
+use Rattle.rules.specs.Counting.{CountersOutliveStates}
+use Rattle.rules.specs.Deliveries.{MasksExact, CallsReachExactly}
 use Rattle.rules.specs.Edges.{computed, edges}
 use Rattle.rules.specs.Tables.{wellFormed}
 use Rattle.rules.specs.Machine.{after}
@@ -15,6 +16,7 @@ use Rattle.rules.proofs.WellFormed.{platform-agrees, tables-agree}
 use Rattle.rules.proofs.Readings.{one-reading, one-row}
 use Rattle.rules.proofs.Kept.{after-kept, fresh-fine}
 use Rattle.rules.proofs.Demand3 as Demand3
+use Rattle.rules.proofs.HostOrder as HostOrder
 use Rattle.rules.proofs.Masks as Masks
 use Rattle.rules.proofs.Refusals as Refusals
 use Rattle.rules.proofs.Reach as Reach
@@ -33,6 +35,10 @@ read-once = record { fronts = λ es r s. one-reading r s; rows = one-row }
 -- every refusal and every error pair leaves the tables and the action memory as they were
 pub refusals-alter-nothing : RefusalsAlterNothing
 refusals-alter-nothing = Refusals.refusals-alter-nothing
+
+-- the host's refusals come in document 01's order: H1, H4, H2, then H3, H5 or H6
+pub host-refusals-in-order : HostRefusalsInOrder
+host-refusals-in-order = HostOrder.host-refusals-in-order
 
 -- every refusal and every error is one that document 01 lists
 pub refusals-listed : RefusalsListed

@@ -17,3 +17,5 @@ pub mod Rows
 pub mod Edges
 pub mod Events
 pub mod Promises
+pub mod Deliveries
+pub mod Counting

@@ -3,34 +3,28 @@
 -- each.
 use mathlib.Core.Path.{_≡_}
 use mathlib.Core.Bool.{true, false}
-use mathlib.Core.List.{List, [], _∷_, _++_, map, List·Memᴰ}
+use mathlib.Core.List.{List, [], _∷_, _++_, map}
 use mathlib.Core.Logic.{_↔_}
-use Prim.Native.Nat.{ℕ, _+_, _^_, _%_, _<_, _≤_}
+use Prim.Native.Nat.{_<_, ℕ, _+_}
 use lib.IntN.{ℤ}
-use Rattle.rules.specs.Sets.{bit, ones, Ascending, all}
-use Rattle.rules.specs.Names.{HSM, IPI, RFENCE, harts, interruptKind, fenceKind}
-use Rattle.rules.specs.Names.{interruptSent, success, notSupported, invalidParam}
-use Rattle.rules.specs.Names.{invalidAddress, alreadyAvailable, alreadyStarted}
-use Rattle.rules.specs.Names.{alreadyStopped, noSharedMemory, notWellFormed, notEnabled}
-use Rattle.rules.specs.Names.{notStarted, shortMemory, stateForbids, notReportable}
-use Rattle.rules.specs.Names.{counters}
-use Rattle.rules.specs.Platform.{width, enabled, platformAccepted, PlatformAccepted}
-use Rattle.rules.specs.Tables.{Tables, stateOf, ownAt, counterAt, fresh, tablesWellFormed}
+use Rattle.rules.specs.Machine.{event, waking, completion, isShort, Operation, call, hartOf}
+use Rattle.rules.specs.Machine.{reply, after}
+use Rattle.rules.specs.Tables.{hartAt, Tables, stateOf, ownAt, fresh, tablesWellFormed}
 use Rattle.rules.specs.Tables.{TablesWellFormed, wellFormed}
-use Rattle.rules.specs.Replies.{Done, Reply, refused, failed, did, accepted, counted}
-use Rattle.rules.specs.Replies.{answerOf, actionsOf, memoryAfter, register}
-use Rattle.rules.specs.Masks.{selected, selectionFits, isReached, reached, actionFor}
-use Rattle.rules.specs.Fences.{Fence, functionOf}
-use Rattle.rules.specs.Events.{sentEvent, operandsOf, startIn, sizeIn, idIn, times, others}
-use Rattle.rules.specs.Events.{occurs}
-use Rattle.rules.specs.Counters.{counterSet, isCounter}
-use Rattle.rules.specs.Machine.{Operation, call, event, hartOf, reply, after}
+use Rattle.rules.specs.Harts.{doneOf, wakeOf}
+use Rattle.rules.specs.Names.{lastReported, STARTED, HSM, harts, success, notSupported}
+use Rattle.rules.specs.Names.{invalidParam, invalidAddress, alreadyAvailable}
+use Rattle.rules.specs.Names.{alreadyStarted, alreadyStopped, noSharedMemory, notWellFormed}
+use Rattle.rules.specs.Names.{notEnabled, notStarted, shortMemory, stateForbids}
+use Rattle.rules.specs.Names.{notReportable}
 use Rattle.rules.specs.Lives.{Event, Life, row, events, Reading, placed}
-use Rattle.rules.specs.Rows.{InRow, _does_, eventOf, tablesNow, rowNow, ready}
+use Rattle.rules.specs.Platform.{enabled, platformAccepted, PlatformAccepted}
+use Rattle.rules.specs.Replies.{Done, Reply, refused, failed, did, accepted, answerOf}
+use Rattle.rules.specs.Replies.{actionsOf, memoryAfter, register}
+use Rattle.rules.specs.Rows.{_does_, eventOf, tablesNow, rowNow, ready}
 use Rattle.rules.specs.Edges.{Edge, edges, computed}
+use Rattle.rules.specs.declared.records.Next.the-variants.{Forbidden}
 use Rattle.rules.specs.declared.platform.Platform.{Platform}
-use Rattle.rules.specs.declared.records.Hart.{Hart}
-use Rattle.rules.specs.declared.records.Counter.{Counter}
 use Rattle.rules.specs.declared.answers.Registers.{Registers}
 use Rattle.rules.specs.declared.answers.Answer.the-variants.{Pair}
 
@@ -78,6 +72,33 @@ pub record Unaltered (p : Platform) (t : Tables) (op : Operation) : Type 0 where
 abbrev pub RefusalsAlterNothing : Type 0
 RefusalsAlterNothing = (p : Platform) (t : Tables) (op : Operation)
     → accepted (reply p t op) ≡ false → Unaltered p t op
+
+-- "Host refusals come instead of a pair, tested in this order": H1, H4, H2, and last H3, H5 or H6
+abbrev pub LastRefusal : Platform → Tables → Operation → Type 0
+-- "a call from a hart not STARTED"
+LastRefusal p t (call room h q) = (stateOf (t .harts) h ≡ STARTED → ⊥)
+    → reply p t (call room h q) ≡ refused notStarted
+-- "completion or wake that the hart's state does not allow"
+LastRefusal p t (completion room h) = doneOf (hartAt (t .harts) h) ≡ Forbidden
+    → reply p t (completion room h) ≡ refused stateForbids
+LastRefusal p t (waking room h) = wakeOf (hartAt (t .harts) h) ≡ Forbidden
+    → reply p t (waking room h) ≡ refused stateForbids
+-- "reported firmware event code over 5"
+LastRefusal p t (event h e) = lastReported < e → reply p t (event h e) ≡ refused notReportable
+
+pub record HostRefusals (p : Platform) (t : Tables) (op : Operation) : Type 0 where
+  -- "platform or tables not well formed"
+  pub h1 : wellFormed p t ≡ false → reply p t op ≡ refused notWellFormed
+  -- "action memory under 640 words (calls, completions, wakes)"
+  pub h4 : wellFormed p t ≡ true → isShort op ≡ true → reply p t op ≡ refused shortMemory
+  -- "the hart number is not enabled or is over 127"
+  pub h2 : wellFormed p t ≡ true → isShort op ≡ false → enabled p (hartOf op) ≡ false
+      → reply p t op ≡ refused notEnabled
+  pub last : wellFormed p t ≡ true → isShort op ≡ false → enabled p (hartOf op) ≡ true
+      → LastRefusal p t op
+
+abbrev pub HostRefusalsInOrder : Type 0
+HostRefusalsInOrder = (p : Platform) (t : Tables) (op : Operation) → HostRefusals p t op
 
 -- "A refusal gives its listed number": the errors and the host refusals that the rules give, by
 -- their numbers
@@ -134,108 +155,6 @@ FreshWellFormed = (p : Platform) → platformAccepted p ≡ true → wellFormed 
 abbrev pub WellFormedKept : Type 0
 WellFormedKept = (p : Platform) (t : Tables) (op : Operation) → wellFormed p t ≡ true
     → wellFormed p (after p t op) ≡ true
-
--- ----- masks: "A hart mask reaches exactly the harts that the rules name."
-
-pub record MaskExact (p : Platform) (m base : ℕ) : Type 0 where
-  -- "With base 2^64 - 1 the mask is ignored and all enabled harts are selected."
-  pub everyone : base ≡ ones (width p) → (h : ℕ) → List·Memᴰ h (selected p m base)
-      ↔ (enabled p h ≡ true)
-  -- "Otherwise bit i selects hart base + i, summed without wrapping"
-  pub named : (base ≡ ones (width p) → ⊥)
-      → (h : ℕ) → List·Memᴰ h (selected p m base)
-      ↔ ((i : ℕ) × (i < width p) × (bit m i ≡ true) × (h ≡ base + i))
-  -- "any selected number not enabled gives -3"
-  pub fits : selectionFits p m base ≡ true
-      ↔ ((h : ℕ) → List·Memᴰ h (selected p m base) → enabled p h ≡ true)
-  -- so a bit whose sum is over 127 refuses the mask: it never comes round to a small number
-  pub neverWraps : (base ≡ ones (width p) → ⊥) → (i : ℕ) → i < width p → bit m i ≡ true
-      → harts ≤ base + i → selectionFits p m base ≡ false
-  -- in ascending order, none twice
-  pub ascending : Ascending (selected p m base)
-  -- "A selected hart is reached unless STOPPED or STOP_PENDING"
-  pub reaches : (hs : List Hart) (h : ℕ) → List·Memᴰ h (reached p hs m base)
-      ↔ (List·Memᴰ h (selected p m base) × (isReached hs h ≡ true))
-  pub reachedAscending : (hs : List Hart) → Ascending (reached p hs m base)
-
-abbrev pub MasksExact : Type 0
-MasksExact = (p : Platform) (m base : ℕ) → MaskExact p m base
-
--- the harts that an accepted call reaches, its actions and the event that it sends
-pub record Sends (p : Platform) (t : Tables) (q : Registers) (d : Done)
-    (kind start size id sent : ℕ) : Type 0 where
-  pub told : d .told ≡ reached p (t .harts) (q .a0) (q .a1)
-  pub actions : d .actions ≡ map (actionFor kind start size id) (d .told)
-  pub code : d .code ≡ sent
-
--- "Kinds: .. 2 interrupt (three zeros), 3 to 9 fences FID 0 to 6 (absent words 0; otherwise the
--- arguments unaltered). One a reached hart, ascending." "Sent codes: interrupt 6; fences .." by the
--- standard's names
-pub record CallsReach (p : Platform) (t : Tables) (q : Registers) (d : Done) : Type 0 where
-  pub interrupts : q .a7 ≡ IPI → Sends p t q d interruptKind 0 0 0 interruptSent
-  pub fences : (f : Fence) → q .a7 ≡ RFENCE → q .a6 ≡ functionOf f
-      → Sends p t q d (fenceKind + functionOf f) (startIn (operandsOf f) q)
-      (sizeIn (operandsOf f) q) (idIn (operandsOf f) q) (sentEvent f)
-
-abbrev pub CallsReachExactly : Type 0
-CallsReachExactly = (p : Platform) (t : Tables) (room h : ℕ) (q : Registers) (d : Done)
-    → reply p t (call room h q) ≡ did d → CallsReach p t q d
-
--- ----- counters
-
--- "An event adds one, going from 2^64 - 1 to 0, to every running counter of that hart mapped to its
--- code", and to no other
-pub record CountsExactly (e : ℕ) (c : Counter) : Type 0 where
-  pub adds : c .running ≡ true → c .mapped ≡ true → c .code ≡ e
-      → counted e c ≡ record
-      { mapped = c .mapped; code = c .code; running = c .running; value = (c .value + 1) % 2 ^ 64 }
-  pub stopped : c .running ≡ false → counted e c ≡ c
-  pub unmapped : c .mapped ≡ false → counted e c ≡ c
-  pub elsewhere : (c .code ≡ e → ⊥) → counted e c ≡ c
-
-abbrev pub EventsAddOne : Type 0
-EventsAddOne = (e : ℕ) (c : Counter) → CountsExactly e c
-
--- "Set: bit i is counter base + i without wrapping; numbers over 7 are -3. Here base 2^64 - 1 has
--- no special meaning."
-pub record CounterSetExact (p : Platform) (base m : ℕ) : Type 0 where
-  pub members : (k : ℕ) → List·Memᴰ k (counterSet p base m)
-      ↔ ((i : ℕ) × (i < width p) × (bit m i ≡ true) × (k ≡ base + i))
-  pub neverWraps : (i : ℕ) → i < width p → bit m i ≡ true → counters ≤ base + i
-      → all isCounter (counterSet p base m) ≡ false
-  pub ascending : Ascending (counterSet p base m)
-
-abbrev pub CounterSetsExact : Type 0
-CounterSetsExact = (p : Platform) (base m : ℕ) → CounterSetExact p base m
-
--- an accepted reported event is counted in its own hart, and nothing else is altered
-pub record EventCounted (p : Platform) (t : Tables) (h e : ℕ) : Type 0 where
-  pub own : (i : ℕ)
-      → counterAt (ownAt (after p t (event h e)) h) i ≡ counted e (counterAt (ownAt t h) i)
-  pub others : (k : ℕ) → (k ≡ h → ⊥) → ownAt (after p t (event h e)) k ≡ ownAt t k
-  pub harts : after p t (event h e) .harts ≡ t .harts
-
-abbrev pub EventsCounted : Type 0
-EventsCounted = (p : Platform) (t : Tables) (h e : ℕ) → accepted (reply p t (event h e)) ≡ true
-    → EventCounted p t h e
-
--- "For each reached hart other than the caller, the caller has one sent event and the target one
--- received event. .. Received is sent + 1."
-pub record TrafficCounted (p : Platform) (t : Tables) (op : Operation) (d : Done) : Type 0 where
-  pub sent : (i : ℕ) → counterAt (ownAt (after p t op) (hartOf op)) i
-      ≡ times (others (hartOf op) (d .told)) (counted (d .code)) (counterAt (d .own) i)
-  pub received : (k : ℕ) → (k ≡ hartOf op → ⊥)
-      → (i : ℕ) → counterAt (ownAt (after p t op) k) i
-      ≡ times (occurs k (d .told)) (counted (d .code + 1)) (counterAt (ownAt t k) i)
-
-abbrev pub TrafficCountedExactly : Type 0
-TrafficCountedExactly = (p : Platform) (t : Tables) (op : Operation) (d : Done)
-    → reply p t op ≡ did d → TrafficCounted p t op d
-
--- "No change of state alters a counter (house)": an operation that stands in a row
-abbrev pub CountersOutliveStates : Type 0
-CountersOutliveStates = (p : Platform) (t : Tables) (op : Operation) (e : InRow)
-    → eventOf op ≡ e ∷ [] → after p t op .counters ≡ t .counters
 
 -- ----- isolation
 

@@ -1,0 +1,72 @@
+-- The promises on what a call sends: whom a mask reaches, which actions the host gets, when an
+-- interrupt, a fence or a reported event is accepted. Each statement stands under its sentence.
+use mathlib.Core.Path.{_≡_}
+use mathlib.Core.Bool.{true, false}
+use mathlib.Core.List.{List, map, List·Memᴰ}
+use mathlib.Core.Logic.{_↔_}
+use Prim.Native.Nat.{ℕ, _+_, _<_, _≤_}
+use Rattle.rules.specs.Names.{STOP-PENDING, STOPPED, IPI, RFENCE, harts, interruptKind}
+use Rattle.rules.specs.Names.{fenceKind, interruptSent}
+use Rattle.rules.specs.Tables.{stateOf, ownAt, Tables}
+use Rattle.rules.specs.Sets.{bit, ones, Ascending}
+use Rattle.rules.specs.Platform.{width, enabled}
+use Rattle.rules.specs.Replies.{Done, did}
+use Rattle.rules.specs.Masks.{selected, selectionFits, reached, actionFor}
+use Rattle.rules.specs.Fences.{Fence, functionOf}
+use Rattle.rules.specs.Events.{sentEvent, operandsOf, startIn, sizeIn, idIn}
+use Rattle.rules.specs.Machine.{call, reply}
+use Rattle.rules.specs.declared.platform.Platform.{Platform}
+use Rattle.rules.specs.declared.records.Hart.{Hart}
+use Rattle.rules.specs.declared.answers.Registers.{Registers}
+
+-- ----- masks: "A hart mask reaches exactly the harts that the rules name."
+
+pub record MaskExact (p : Platform) (m base : ℕ) : Type 0 where
+  -- "With base 2^64 - 1 the mask is ignored and all enabled harts are selected."
+  pub everyone : base ≡ ones (width p) → (h : ℕ) → List·Memᴰ h (selected p m base)
+      ↔ (enabled p h ≡ true)
+  -- "Otherwise bit i selects hart base + i, summed without wrapping"
+  pub named : (base ≡ ones (width p) → ⊥)
+      → (h : ℕ) → List·Memᴰ h (selected p m base)
+      ↔ ((i : ℕ) × (i < width p) × (bit m i ≡ true) × (h ≡ base + i))
+  -- "any selected number not enabled gives -3"
+  pub fits : selectionFits p m base ≡ true
+      ↔ ((h : ℕ) → List·Memᴰ h (selected p m base) → enabled p h ≡ true)
+  -- so a bit whose sum is over 127 refuses the mask: it never comes round to a small number
+  pub neverWraps : (base ≡ ones (width p) → ⊥) → (i : ℕ) → i < width p → bit m i ≡ true
+      → harts ≤ base + i → selectionFits p m base ≡ false
+  -- in ascending order, none twice
+  pub ascending : Ascending (selected p m base)
+  -- "A selected hart is reached unless STOPPED or STOP_PENDING"
+  pub reaches : (hs : List Hart) (h : ℕ) → List·Memᴰ h (reached p hs m base)
+      ↔ (List·Memᴰ h (selected p m base) × (stateOf hs h ≡ STOPPED → ⊥)
+      × (stateOf hs h ≡ STOP-PENDING → ⊥))
+  pub reachedAscending : (hs : List Hart) → Ascending (reached p hs m base)
+
+abbrev pub MasksExact : Type 0
+MasksExact = (p : Platform) (m base : ℕ) → MaskExact p m base
+
+-- the harts that an accepted call of hart h reaches, its actions and the event that it sends; and
+-- that no hart record and no counter is altered before that event is counted
+pub record Sends (p : Platform) (t : Tables) (h : ℕ) (q : Registers) (d : Done)
+    (kind start size id sent : ℕ) : Type 0 where
+  pub told : d .told ≡ reached p (t .harts) (q .a0) (q .a1)
+  pub actions : d .actions ≡ map (actionFor kind start size id) (d .told)
+  pub code : d .code ≡ sent
+  pub harts : d .harts ≡ t .harts
+  pub own : d .own ≡ ownAt t h
+  pub value : d .value ≡ 0
+  pub parked : d .parked ≡ false
+
+-- "Kinds: .. 2 interrupt (three zeros), 3 to 9 fences FID 0 to 6 (absent words 0; otherwise the
+-- arguments unaltered). One a reached hart, ascending." "Sent codes: interrupt 6; fences .." by the
+-- standard's names
+pub record CallsReach (p : Platform) (t : Tables) (h : ℕ) (q : Registers) (d : Done) : Type 0 where
+  pub interrupts : q .a7 ≡ IPI → Sends p t h q d interruptKind 0 0 0 interruptSent
+  pub fences : (f : Fence) → q .a7 ≡ RFENCE → q .a6 ≡ functionOf f
+      → Sends p t h q d (fenceKind + functionOf f) (startIn (operandsOf f) q)
+      (sizeIn (operandsOf f) q) (idIn (operandsOf f) q) (sentEvent f)
+
+abbrev pub CallsReachExactly : Type 0
+CallsReachExactly = (p : Platform) (t : Tables) (room h : ℕ) (q : Registers) (d : Done)
+    → reply p t (call room h q) ≡ did d → CallsReach p t h q d
