@@ -22,5 +22,7 @@ pub mod Refusals
 pub mod Counting
 pub mod Passed
 pub mod Traffic
+pub mod Notes
 pub mod Reach
+pub mod SendsAccepted
 pub mod Theorems

@@ -6,8 +6,8 @@ use Prim.Native.Nat.{ℕ, _+_}
 use native.Mathlib.Omega.{arith}
 use lib.Dec.{eqb}
 use lib.IntN.{ℤ}
+use Rattle.rules.specs.Names.{harts, IPI, RFENCE, interruptKind, fenceKind, interruptSent}
 use Rattle.rules.specs.Choice.{if_then_else_}
-use Rattle.rules.specs.Names.{IPI, RFENCE, interruptKind, fenceKind, interruptSent}
 use Rattle.rules.specs.Tables.{Tables}
 use Rattle.rules.specs.Replies.{View, view, Done, did, Plain, fails, plain}
 use Rattle.rules.specs.Masks.{reached, actionFor, sendTo}
@@ -32,6 +32,20 @@ sent-code HFENCE-GVMA-VMID = refl
 sent-code HFENCE-GVMA = refl
 sent-code HFENCE-VVMA-ASID = refl
 sent-code HFENCE-VVMA = refl
+
+-- what a fence by name asks for
+pub fence-asked : (q : Registers) (f : Fence) → q .a7 ≡ RFENCE → q .a6 ≡ functionOf f
+    → request q ≡ other
+    (fence (functionOf f) (q .a0) (q .a1) (startIn (operandsOf f) q) (sizeIn (operandsOf f) q)
+    (idIn (operandsOf f) q))
+unfolding request fenceRequest if_then_else_
+fence-asked q FENCE-I a7 a6 = rw (a7, a6) refl
+fence-asked q SFENCE-VMA a7 a6 = rw (a7, a6) refl
+fence-asked q SFENCE-VMA-ASID a7 a6 = rw (a7, a6) refl
+fence-asked q HFENCE-GVMA-VMID a7 a6 = rw (a7, a6) refl
+fence-asked q HFENCE-GVMA a7 a6 = rw (a7, a6) refl
+fence-asked q HFENCE-VVMA-ASID a7 a6 = rw (a7, a6) refl
+fence-asked q HFENCE-VVMA a7 a6 = rw (a7, a6) refl
 
 -- a reply that is done did not fail
 if-sent : (v : View) (b : Bool) (e : ℤ) (q : Plain) (d : Done) → plain v (if b then fails e else q) ≡ did d
@@ -81,25 +95,12 @@ module _ (p : Platform) (t : Tables) (room h : ℕ) (q : Registers) (d : Done)
       unknown-fails : plain (view t h) (plainReply p (view t h) unknown) ≡ did d → ⊥
       unknown-fails e = unfold plain plainReply in (let z : _≡_ {A = ℕ} 0 1 = cc in omega arith)
 
-  fence-asked : (f : Fence) → q .a7 ≡ RFENCE → q .a6 ≡ functionOf f
-      → request q ≡ other
-      (fence (functionOf f) (q .a0) (q .a1) (startIn (operandsOf f) q) (sizeIn (operandsOf f) q)
-      (idIn (operandsOf f) q))
-  unfolding request fenceRequest if_then_else_
-  fence-asked FENCE-I a7 a6 = rw (a7, a6) refl
-  fence-asked SFENCE-VMA a7 a6 = rw (a7, a6) refl
-  fence-asked SFENCE-VMA-ASID a7 a6 = rw (a7, a6) refl
-  fence-asked HFENCE-GVMA-VMID a7 a6 = rw (a7, a6) refl
-  fence-asked HFENCE-GVMA a7 a6 = rw (a7, a6) refl
-  fence-asked HFENCE-VVMA-ASID a7 a6 = rw (a7, a6) refl
-  fence-asked HFENCE-VVMA a7 a6 = rw (a7, a6) refl
-
   fences : (f : Fence) → q .a7 ≡ RFENCE → q .a6 ≡ functionOf f
       → Sends p t h q d (fenceKind + functionOf f) (startIn (operandsOf f) q) (sizeIn (operandsOf f) q)
       (idIn (operandsOf f) q) (sentEvent f)
   unfolding requestReply plainReply fenceReply view
   fences f a7 a6 =
-      let e = ap (requestReply p (view t h) h) (sym (fence-asked f a7 a6)) ∙ asked in
+      let e = ap (requestReply p (view t h) h) (sym (fence-asked q f a7 a6)) ∙ asked in
       let last = if-sent (view t h) _ _ _ d
       (if-sent (view t h) _ _ _ d (if-sent (view t h) _ _ _ d (if-sent (view t h) _ _ _ d e))) in
       subst (Sends p t h q d _ _ _ _) (sent-code f) (sent _ _ _ _ _ last)

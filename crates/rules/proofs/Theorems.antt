@@ -1,11 +1,12 @@
 -- A theorem for each statement of specs/Promises, under its name. Assumes nothing.
 use mathlib.Core.Path.{refl}
-use Rattle.rules.specs.Promises.{HostRefusalsInOrder, LivesHold, ReadOnce, RefusalsAlterNothing, RefusalsListed}
-use Rattle.rules.specs.Promises.{PlatformTestAgrees, TablesTestAgrees, FreshWellFormed, WellFormedKept}
-use Rattle.rules.specs.Promises.{CountersApart, EdgesHold, RegisterValues}
+use Rattle.rules.specs.Promises.{FreshExact, NotesKept, SuspendsNoted, HostRefusalsInOrder, LivesHold, ReadOnce}
+use Rattle.rules.specs.Promises.{RefusalsAlterNothing, RefusalsListed, PlatformTestAgrees, TablesTestAgrees}
+use Rattle.rules.specs.Promises.{FreshWellFormed, WellFormedKept, CountersApart, EdgesHold, RegisterValues}
+use Rattle.rules.specs.Deliveries.{EventsAccepted, FencesAccepted, InterruptsAccepted, MasksExact}
+use Rattle.rules.specs.Deliveries.{CallsReachExactly}
 use Rattle.rules.specs.Counting.{CounterSetsExact, EventsAddOne, EventsCounted, TrafficCountedExactly}
 use Rattle.rules.specs.Counting.{CountersOutliveStates}
-use Rattle.rules.specs.Deliveries.{MasksExact, CallsReachExactly}
 use Rattle.rules.specs.Edges.{computed, edges}
 use Rattle.rules.specs.Tables.{wellFormed}
 use Rattle.rules.specs.Machine.{after}
@@ -17,9 +18,11 @@ use Rattle.rules.proofs.Readings.{one-reading, one-row}
 use Rattle.rules.proofs.Kept.{after-kept, fresh-fine}
 use Rattle.rules.proofs.Demand3 as Demand3
 use Rattle.rules.proofs.HostOrder as HostOrder
+use Rattle.rules.proofs.Notes as Notes
 use Rattle.rules.proofs.Masks as Masks
 use Rattle.rules.proofs.Refusals as Refusals
 use Rattle.rules.proofs.Reach as Reach
+use Rattle.rules.proofs.SendsAccepted as SendsAccepted
 use Rattle.rules.proofs.Counting as Counting
 use Rattle.rules.proofs.Traffic as Traffic
 
@@ -69,6 +72,18 @@ well-formed-kept p t op w =
     and-of (and-l (platformAccepted p) _ w)
     (tables-agree p (after p t op) .1 (after-kept p t op (tables-agree p t .0 (and-r (platformAccepted p) _ w))))
 
+-- fresh: the boot hart STARTED, every other STOPPED, notes that say nothing, blank counters
+pub fresh-exact : FreshExact
+fresh-exact = Notes.fresh-exact
+
+-- an accepted suspend writes the sleep note
+pub suspends-noted : SuspendsNoted
+suspends-noted = Notes.suspends-noted
+
+-- nothing else alters a sleep note
+pub notes-kept : NotesKept
+notes-kept = Notes.notes-kept
+
 -- a mask selects and reaches exactly the harts that the rules name, ascending, with no sum that wraps
 pub masks-exact : MasksExact
 masks-exact = Masks.masks-exact
@@ -76,6 +91,19 @@ masks-exact = Masks.masks-exact
 -- an accepted interrupt or fence reaches those harts, with the actions and the event that document 01 lists
 pub calls-reach-exactly : CallsReachExactly
 calls-reach-exactly = Reach.calls-reach-exactly
+
+-- an interrupt of a running caller is accepted if its mask fits, and is answered -3 otherwise
+pub interrupts-accepted : InterruptsAccepted
+interrupts-accepted = SendsAccepted.interrupts-accepted
+
+-- a fence of a running caller is accepted if its harts, id, hypervisors and range fit; the first that does not settles
+-- its error
+pub fences-accepted : FencesAccepted
+fences-accepted = SendsAccepted.fences-accepted
+
+-- a reported event of an enabled hart is accepted if its code is 0 to 5
+pub events-accepted : EventsAccepted
+events-accepted = SendsAccepted.events-accepted
 
 -- a set of counters holds exactly base + i for each set bit i, and no base means all
 pub counter-sets-exact : CounterSetsExact

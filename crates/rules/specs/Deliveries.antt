@@ -5,16 +5,17 @@ use mathlib.Core.Bool.{true, false}
 use mathlib.Core.List.{List, map, List·Memᴰ}
 use mathlib.Core.Logic.{_↔_}
 use Prim.Native.Nat.{ℕ, _+_, _<_, _≤_}
-use Rattle.rules.specs.Names.{STOP-PENDING, STOPPED, IPI, RFENCE, harts, interruptKind}
-use Rattle.rules.specs.Names.{fenceKind, interruptSent}
-use Rattle.rules.specs.Tables.{stateOf, ownAt, Tables}
+use Rattle.rules.specs.Tables.{wellFormed, stateOf, ownAt, Tables}
+use Rattle.rules.specs.Machine.{event, call, reply}
+use Rattle.rules.specs.Fences.{hypervisorsFit, idValid, rangeValid, Fence, functionOf}
+use Rattle.rules.specs.Replies.{Reply, accepted, failed, Done, did}
+use Rattle.rules.specs.Names.{STARTED, actionMemory, invalidAddress, invalidParam}
+use Rattle.rules.specs.Names.{lastReported, notSupported, STOP-PENDING, STOPPED, IPI}
+use Rattle.rules.specs.Names.{RFENCE, harts, interruptKind, fenceKind, interruptSent}
 use Rattle.rules.specs.Sets.{bit, ones, Ascending}
 use Rattle.rules.specs.Platform.{width, enabled}
-use Rattle.rules.specs.Replies.{Done, did}
 use Rattle.rules.specs.Masks.{selected, selectionFits, reached, actionFor}
-use Rattle.rules.specs.Fences.{Fence, functionOf}
 use Rattle.rules.specs.Events.{sentEvent, operandsOf, startIn, sizeIn, idIn}
-use Rattle.rules.specs.Machine.{call, reply}
 use Rattle.rules.specs.declared.platform.Platform.{Platform}
 use Rattle.rules.specs.declared.records.Hart.{Hart}
 use Rattle.rules.specs.declared.answers.Registers.{Registers}
@@ -70,3 +71,55 @@ pub record CallsReach (p : Platform) (t : Tables) (h : ℕ) (q : Registers) (d :
 abbrev pub CallsReachExactly : Type 0
 CallsReachExactly = (p : Platform) (t : Tables) (room h : ℕ) (q : Registers) (d : Done)
     → reply p t (call room h q) ≡ did d → CallsReach p t h q d
+
+-- ----- which are accepted
+
+-- a call of the enabled, running hart h on well-formed tables, with enough action memory
+pub record CanCall (p : Platform) (t : Tables) (room h : ℕ) : Type 0 where
+  pub well : wellFormed p t ≡ true
+  pub long : actionMemory ≤ room
+  pub on : enabled p h ≡ true
+  pub started : stateOf (t .harts) h ≡ STARTED
+
+-- "any selected number not enabled gives -3": nothing else stops an interrupt
+pub record InterruptAnswered (p : Platform) (r : Reply) (q : Registers) : Type 0 where
+  pub accepts : accepted r ≡ true ↔ selectionFits p (q .a0) (q .a1) ≡ true
+  pub noHarts : selectionFits p (q .a0) (q .a1) ≡ false → r ≡ failed invalidParam
+
+abbrev pub InterruptsAccepted : Type 0
+InterruptsAccepted = (p : Platform) (t : Tables) (room h : ℕ) (q : Registers) → CanCall p t room h
+    → q .a7 ≡ IPI → q .a6 ≡ 0
+    → InterruptAnswered p (reply p t (call room h q)) q
+
+-- "Order: harts (-3), ASID or VMID below 2^width (-3), hypervisor extension on every selected hart
+-- for FID 3 to 6 (-2), range (-5).": the four tests of a fence, and what it is answered
+pub record FenceFits (p : Platform) (f : Fence) (q : Registers) : Type 0 where
+  pub selection : selectionFits p (q .a0) (q .a1) ≡ true
+  pub id : idValid p (functionOf f) (idIn (operandsOf f) q) ≡ true
+  pub hypervisors : hypervisorsFit p (functionOf f) (selected p (q .a0) (q .a1)) ≡ true
+  pub range : rangeValid (width p) (startIn (operandsOf f) q) (sizeIn (operandsOf f) q) ≡ true
+
+pub record FenceAnswered (p : Platform) (f : Fence) (r : Reply) (q : Registers) : Type 0 where
+  pub accepts : accepted r ≡ true ↔ FenceFits p f q
+  pub noHarts : selectionFits p (q .a0) (q .a1) ≡ false → r ≡ failed invalidParam
+  pub noId : selectionFits p (q .a0) (q .a1) ≡ true
+      → idValid p (functionOf f) (idIn (operandsOf f) q) ≡ false → r ≡ failed invalidParam
+  pub noHypervisor : selectionFits p (q .a0) (q .a1) ≡ true
+      → idValid p (functionOf f) (idIn (operandsOf f) q) ≡ true
+      → hypervisorsFit p (functionOf f) (selected p (q .a0) (q .a1)) ≡ false
+      → r ≡ failed notSupported
+  pub noRange : selectionFits p (q .a0) (q .a1) ≡ true
+      → idValid p (functionOf f) (idIn (operandsOf f) q) ≡ true
+      → hypervisorsFit p (functionOf f) (selected p (q .a0) (q .a1)) ≡ true
+      → rangeValid (width p) (startIn (operandsOf f) q) (sizeIn (operandsOf f) q) ≡ false
+      → r ≡ failed invalidAddress
+
+abbrev pub FencesAccepted : Type 0
+FencesAccepted = (p : Platform) (t : Tables) (room h : ℕ) (f : Fence) (q : Registers)
+    → CanCall p t room h → q .a7 ≡ RFENCE → q .a6 ≡ functionOf f
+    → FenceAnswered p f (reply p t (call room h q)) q
+
+-- "The host reports codes 0 to 5.": of an enabled hart in any state
+abbrev pub EventsAccepted : Type 0
+EventsAccepted = (p : Platform) (t : Tables) (h e : ℕ) → wellFormed p t ≡ true → enabled p h ≡ true
+    → accepted (reply p t (event h e)) ≡ true ↔ e ≤ lastReported

@@ -5,24 +5,26 @@ use mathlib.Core.Path.{_≡_}
 use mathlib.Core.Bool.{true, false}
 use mathlib.Core.List.{List, [], _∷_, _++_, map}
 use mathlib.Core.Logic.{_↔_}
-use Prim.Native.Nat.{_<_, ℕ, _+_}
+use Prim.Native.Nat.{_%_, _^_, _<_, ℕ, _+_}
 use lib.IntN.{ℤ}
-use Rattle.rules.specs.Machine.{event, waking, completion, isShort, Operation, call, hartOf}
-use Rattle.rules.specs.Machine.{reply, after}
-use Rattle.rules.specs.Tables.{hartAt, Tables, stateOf, ownAt, fresh, tablesWellFormed}
-use Rattle.rules.specs.Tables.{TablesWellFormed, wellFormed}
-use Rattle.rules.specs.Harts.{doneOf, wakeOf}
+use Rattle.rules.specs.Lives.{suspend, Event, Life, row, events, Reading, placed}
+use Rattle.rules.specs.Names.{STOPPED, SUSPEND-PENDING, nonRetentiveType, retentiveType}
 use Rattle.rules.specs.Names.{lastReported, STARTED, HSM, harts, success, notSupported}
 use Rattle.rules.specs.Names.{invalidParam, invalidAddress, alreadyAvailable}
 use Rattle.rules.specs.Names.{alreadyStarted, alreadyStopped, noSharedMemory, notWellFormed}
 use Rattle.rules.specs.Names.{notEnabled, notStarted, shortMemory, stateForbids}
 use Rattle.rules.specs.Names.{notReportable}
-use Rattle.rules.specs.Lives.{Event, Life, row, events, Reading, placed}
+use Rattle.rules.specs.Tables.{blank, counterAt, idle, hartAt, Tables, stateOf, ownAt}
+use Rattle.rules.specs.Tables.{fresh, tablesWellFormed, TablesWellFormed, wellFormed}
+use Rattle.rules.specs.Machine.{event, waking, completion, isShort, Operation, call, hartOf}
+use Rattle.rules.specs.Machine.{reply, after}
+use Rattle.rules.specs.Harts.{doneOf, wakeOf}
 use Rattle.rules.specs.Platform.{enabled, platformAccepted, PlatformAccepted}
 use Rattle.rules.specs.Replies.{Done, Reply, refused, failed, did, accepted, answerOf}
 use Rattle.rules.specs.Replies.{actionsOf, memoryAfter, register}
 use Rattle.rules.specs.Rows.{_does_, eventOf, tablesNow, rowNow, ready}
 use Rattle.rules.specs.Edges.{Edge, edges, computed}
+use Rattle.rules.specs.declared.records.Hart.{Hart}
 use Rattle.rules.specs.declared.records.Next.the-variants.{Forbidden}
 use Rattle.rules.specs.declared.platform.Platform.{Platform}
 use Rattle.rules.specs.declared.answers.Registers.{Registers}
@@ -155,6 +157,42 @@ FreshWellFormed = (p : Platform) → platformAccepted p ≡ true → wellFormed 
 abbrev pub WellFormedKept : Type 0
 WellFormedKept = (p : Platform) (t : Tables) (op : Operation) → wellFormed p t ≡ true
     → wellFormed p (after p t op) ≡ true
+
+-- ----- fresh tables and sleep notes
+
+-- "Fresh: boot hart STARTED, every other STOPPED, sleep notes retentive, 0, 0, all counters
+-- unmapped, stopped, zero."
+pub record FreshTables (p : Platform) : Type 0 where
+  pub boot : hartAt (fresh p .harts) (p .boot) ≡ idle STARTED
+  pub others : (h : ℕ) → (h ≡ p .boot → ⊥) → hartAt (fresh p .harts) h ≡ idle STOPPED
+  pub counters : (h i : ℕ) → counterAt (ownAt (fresh p) h) i ≡ blank
+
+abbrev pub FreshExact : Type 0
+FreshExact = (p : Platform) → platformAccepted p ≡ true → FreshTables p
+
+-- "An accepted suspend writes the sleep note (retentive, 0, 0 for type 0)": hart h's record x after
+-- it
+pub record NoteWritten (q : Registers) (x : Hart) : Type 0 where
+  pub retentive : q .a0 % 2 ^ 32 ≡ retentiveType → x ≡ idle SUSPEND-PENDING
+  pub nonRetentive : q .a0 % 2 ^ 32 ≡ nonRetentiveType
+      → x ≡ record
+      { state = SUSPEND-PENDING; retentive = false; address = q .a1; opaque = q .a2 }
+
+abbrev pub SuspendsNoted : Type 0
+SuspendsNoted = (p : Platform) (t : Tables) (room h : ℕ) (q : Registers) → q .a7 ≡ HSM → q .a6 ≡ 3
+    → accepted (reply p t (call room h q)) ≡ true
+    → NoteWritten q (hartAt (after p t (call room h q) .harts) h)
+
+-- "nothing else alters it": neither a refusal nor any operation but a suspend of that hart
+pub record SameNote (x y : Hart) : Type 0 where
+  pub retentive : y .retentive ≡ x .retentive
+  pub address : y .address ≡ x .address
+  pub opaque : y .opaque ≡ x .opaque
+
+abbrev pub NotesKept : Type 0
+NotesKept = (p : Platform) (t : Tables) (op : Operation) (k : ℕ)
+    → (accepted (reply p t op) ≡ true → eventOf op ≡ k does suspend ∷ [] → ⊥)
+    → SameNote (hartAt (t .harts) k) (hartAt (after p t op .harts) k)
 
 -- ----- isolation
 
