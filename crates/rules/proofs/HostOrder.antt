@@ -7,7 +7,7 @@ use Rattle.rules.specs.Names.{notWellFormed}
 use Rattle.rules.specs.Tables.{Tables, wellFormed}
 use Rattle.rules.specs.Machine.{checkedReply, enabledReply, Operation, call, completion, waking, event, hartOf}
 use Rattle.rules.specs.Machine.{isShort, reply}
-use Rattle.rules.specs.Promises.{LastRefusal, HostRefusalsInOrder}
+use Rattle.rules.specs.Refusals.{LastRefusal, HostRefusalsInOrder}
 use Rattle.rules.specs.declared.platform.Platform.{Platform}
 use Rattle.rules.proofs.CounterWays.{event-not-reportable}
 use Rattle.rules.proofs.Logic.{if-false, if-true}

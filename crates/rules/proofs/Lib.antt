@@ -25,4 +25,6 @@ pub mod Traffic
 pub mod Notes
 pub mod Reach
 pub mod SendsAccepted
+pub mod Deeds
+pub mod ActionsGiven
 pub mod Theorems

@@ -4,9 +4,13 @@ use mathlib.Core.List.{List, [], _∷_}
 use mathlib.Core.Bool.{Bool, false, true}
 use Prim.Native.Nat.{_≤_, _%_, _<_, _^_, ℕ}
 use native.Mathlib.Omega.{arith}
+use lib.Dec.{eqb}
 use lib.Seq.{getD-set-other, getD-set-same}
 use lib.ListN.{List·getD-eq-default, getD, getD-replicate, length, length-replicate, replicate, set}
 use lib.IntN.{ℤ}
+use borrow.Author.Tests.{eqb-false, eqb-true}
+use Rattle.rules.specs.Names.{nonRetentiveType, HSM, RESUME-PENDING, START-PENDING, STARTED, STOP-PENDING}
+use Rattle.rules.specs.Names.{STOPPED, SUSPENDED, counters, harts, retentiveType}
 use Rattle.rules.specs.Promises.{FreshExact, NoteWritten, NotesKept, SameNote, SuspendsNoted}
 use Rattle.rules.specs.Rows.{InRow, _does_, eventOf, requestEvent}
 use Rattle.rules.specs.Counters.{eventReply}
@@ -19,8 +23,6 @@ use Rattle.rules.specs.Platform.{validAddress}
 use Rattle.rules.specs.Machine.{Operation, after, call, checkedReply, completion, enabledReply, event, hartOf}
 use Rattle.rules.specs.Machine.{lifeReply, plainReply, reply, requestReply, waking}
 use Rattle.rules.specs.Tables.{Tables, blank, counterAt, fresh, hartAt, idle, inState, ownAt}
-use Rattle.rules.specs.Names.{HSM, RESUME-PENDING, START-PENDING, STARTED, STOP-PENDING, STOPPED, SUSPENDED}
-use Rattle.rules.specs.Names.{counters, harts, retentiveType}
 use Rattle.rules.specs.Requests.{Request, hartStart, hartStop, hartSuspend, life, other, request}
 use Rattle.rules.specs.Lives.{suspend}
 use Rattle.rules.specs.declared.records.Next.{Next}
@@ -30,9 +32,9 @@ use Rattle.rules.specs.declared.actions.Action.{Action}
 use Rattle.rules.specs.declared.records.Counter.{Counter}
 use Rattle.rules.specs.declared.records.Next.the-variants.{Forbidden, To}
 use Rattle.rules.specs.declared.records.Hart.{Hart}
+use Rattle.rules.proofs.HartWays.{suspend-no-type, suspend-given, suspend-nowhere, suspend-retentive}
 use Rattle.rules.proofs.Logic.{below-or, by-cases, if-both}
 use Rattle.rules.proofs.Lists.{getD-repeat, set-either}
-use Rattle.rules.proofs.HartWays.{suspend-given, suspend-nowhere, suspend-retentive}
 use Rattle.rules.proofs.Passed.{Passed, accepted-did, did-passed, if-did}
 use Rattle.rules.proofs.RequestWays.{hart-3, request-hsm}
 use Rattle.rules.proofs.WellFormed.{enabled-under, platform-agrees}
@@ -206,6 +208,11 @@ module _ (p : Platform) (t : Tables) (room h : ℕ) (q : Registers) (a7 : q .a7 
   noted : NoteWritten q (hartAt (after p t (call room h q) .harts) h)
   unfolding suspendOf if_then_else_ view
   noted = record {
+    type = λ n.
+        by-cases (eqb type nonRetentiveType) (λ y. eqb-true _ _ y)
+        (λ m.
+        let e = sym suspended ∙ suspend-no-type p (view t h) h type (q .a1) (q .a2) n (eqb-false _ _ m) in
+        let z : _≡_ {A = ℕ} 0 1 = cc in absurd (omega arith));
     retentive = λ y. stored _ (suspend-retentive p (view t h) h type (q .a1) (q .a2) y);
     nonRetentive = λ y.
         let n : type ≡ retentiveType → ⊥ = λ z. omega arith in

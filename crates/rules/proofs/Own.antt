@@ -28,8 +28,8 @@ use Rattle.rules.specs.Requests.{counterCount, counterDetails, counterCo
 use Rattle.rules.specs.Requests.{counterRead, counterReadHigh, unknown}
 use Rattle.rules.specs.Machine.{lifeReply, plainReply, requestReply, Operation, call, completion, waking, event}
 use Rattle.rules.specs.Machine.{enabledReply}
-use Rattle.rules.specs.Promises.{ListedError, is-2, is-3, is-5, is-6, is-7, is-8, is-9, ListedRefusal, is-H3}
-use Rattle.rules.specs.Promises.{is-H5, is-H6}
+use Rattle.rules.specs.Refusals.{ListedError, is-2, is-3, is-5, is-6, is-7, is-8, is-9, ListedRefusal, is-H3}
+use Rattle.rules.specs.Refusals.{is-H5, is-H6}
 use Rattle.rules.specs.declared.platform.Platform.{Platform}
 use Rattle.rules.specs.declared.records.Hart.{Hart}
 use Rattle.rules.specs.declared.records.Counter.{Counter}

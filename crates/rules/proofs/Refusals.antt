@@ -10,8 +10,9 @@ use Rattle.rules.specs.Tables.{Tables, wellFormed, tablesWellFormed}
 use Rattle.rules.specs.Replies.{view, Reply, refused, failed, did, accepted, answerOf, actionsOf, wordsOf, laid}
 use Rattle.rules.specs.Replies.{memoryAfter, commit}
 use Rattle.rules.specs.Machine.{Operation, hartOf, checkedReply, reply, after}
-use Rattle.rules.specs.Promises.{RefusalsAlterNothing, Listed, listed-refusal, listed-error, no-refusal}
-use Rattle.rules.specs.Promises.{RefusalsListed, is-H1, is-H2, is-H4, Alike, CountersApart}
+use Rattle.rules.specs.Refusals.{RefusalsAlterNothing, Listed, listed-refusal, listed-error, no-refusal}
+use Rattle.rules.specs.Refusals.{RefusalsListed, is-H1, is-H2, is-H4}
+use Rattle.rules.specs.Promises.{Alike, CountersApart}
 use Rattle.rules.specs.declared.platform.Platform.{Platform}
 use Rattle.rules.proofs.Logic.{if-false, if-both, and-r, not-of, false-true}
 use Rattle.rules.proofs.WellFormed.{enabled-under, tables-agree}

@@ -1,10 +1,11 @@
 -- A theorem for each statement of specs/Promises, under its name. Assumes nothing.
 use mathlib.Core.Path.{refl}
-use Rattle.rules.specs.Promises.{FreshExact, NotesKept, SuspendsNoted, HostRefusalsInOrder, LivesHold, ReadOnce}
-use Rattle.rules.specs.Promises.{RefusalsAlterNothing, RefusalsListed, PlatformTestAgrees, TablesTestAgrees}
-use Rattle.rules.specs.Promises.{FreshWellFormed, WellFormedKept, CountersApart, EdgesHold, RegisterValues}
-use Rattle.rules.specs.Deliveries.{EventsAccepted, FencesAccepted, InterruptsAccepted, MasksExact}
-use Rattle.rules.specs.Deliveries.{CallsReachExactly}
+use Rattle.rules.specs.Deliveries.{ActionsExact, ActionsFit, FrontExact, EventsAccepted, FencesAccepted}
+use Rattle.rules.specs.Deliveries.{InterruptsAccepted, MasksExact, CallsReachExactly}
+use Rattle.rules.specs.Refusals.{AnswersExact, ParkedExactly, HostRefusalsInOrder, RefusalsAlterNothing}
+use Rattle.rules.specs.Refusals.{RefusalsListed, RegisterValues}
+use Rattle.rules.specs.Promises.{FreshExact, NotesKept, SuspendsNoted, LivesHold, ReadOnce, PlatformTestAgrees}
+use Rattle.rules.specs.Promises.{TablesTestAgrees, FreshWellFormed, WellFormedKept, CountersApart, EdgesHold}
 use Rattle.rules.specs.Counting.{CounterSetsExact, EventsAddOne, EventsCounted, TrafficCountedExactly}
 use Rattle.rules.specs.Counting.{CountersOutliveStates}
 use Rattle.rules.specs.Edges.{computed, edges}
@@ -23,6 +24,7 @@ use Rattle.rules.proofs.Masks as Masks
 use Rattle.rules.proofs.Refusals as Refusals
 use Rattle.rules.proofs.Reach as Reach
 use Rattle.rules.proofs.SendsAccepted as SendsAccepted
+use Rattle.rules.proofs.ActionsGiven as ActionsGiven
 use Rattle.rules.proofs.Counting as Counting
 use Rattle.rules.proofs.Traffic as Traffic
 
@@ -46,6 +48,14 @@ host-refusals-in-order = HostOrder.host-refusals-in-order
 -- every refusal and every error is one that document 01 lists
 pub refusals-listed : RefusalsListed
 refusals-listed = Refusals.refusals-listed
+
+-- a pair is marked parked for a stop and a suspend alone
+pub parked-exactly : ParkedExactly
+parked-exactly = ActionsGiven.parked-exactly
+
+-- Hk for a refusal, the error and 0 for an error, and else 0, the value, the mark and the number of actions
+pub answers-exact : AnswersExact
+answers-exact = ActionsGiven.answers-exact
 
 -- -3 stands in the register as 18446744073709551613, and so for success and each error
 pub register-values : RegisterValues
@@ -104,6 +114,19 @@ fences-accepted = SendsAccepted.fences-accepted
 -- a reported event of an enabled hart is accepted if its code is 0 to 5
 pub events-accepted : EventsAccepted
 events-accepted = SendsAccepted.events-accepted
+
+-- a start gives one action, a wake from non-retentive sleep gives one, and but for interrupts and fences nothing else
+-- gives any
+pub actions-exact : ActionsExact
+actions-exact = ActionsGiven.actions-exact
+
+-- 640 words hold the actions of every operation
+pub actions-fit : ActionsFit
+actions-fit = ActionsGiven.actions-fit
+
+-- the actions are laid at the front of the action memory, and the words after them stay
+pub front-exact : FrontExact
+front-exact = ActionsGiven.front-exact
 
 -- a set of counters holds exactly base + i for each set bit i, and no base means all
 pub counter-sets-exact : CounterSetsExact

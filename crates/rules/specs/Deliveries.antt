@@ -1,17 +1,19 @@
 -- The promises on what a call sends: whom a mask reaches, which actions the host gets, when an
 -- interrupt, a fence or a reported event is accepted. Each statement stands under its sentence.
+use mathlib.Core.List.{[], _∷_, List, map, List·Memᴰ}
 use mathlib.Core.Path.{_≡_}
 use mathlib.Core.Bool.{true, false}
-use mathlib.Core.List.{List, map, List·Memᴰ}
 use mathlib.Core.Logic.{_↔_}
 use Prim.Native.Nat.{ℕ, _+_, _<_, _≤_}
-use Rattle.rules.specs.Tables.{wellFormed, stateOf, ownAt, Tables}
-use Rattle.rules.specs.Machine.{event, call, reply}
-use Rattle.rules.specs.Fences.{hypervisorsFit, idValid, rangeValid, Fence, functionOf}
-use Rattle.rules.specs.Replies.{Reply, accepted, failed, Done, did}
-use Rattle.rules.specs.Names.{STARTED, actionMemory, invalidAddress, invalidParam}
+use lib.ListN.{drop, length, take}
+use Rattle.rules.specs.Tables.{hartAt, wellFormed, stateOf, ownAt, Tables}
+use Rattle.rules.specs.Names.{HSM, STARTED, actionMemory, invalidAddress, invalidParam}
 use Rattle.rules.specs.Names.{lastReported, notSupported, STOP-PENDING, STOPPED, IPI}
 use Rattle.rules.specs.Names.{RFENCE, harts, interruptKind, fenceKind, interruptSent}
+use Rattle.rules.specs.Machine.{Operation, completion, waking, event, call, reply}
+use Rattle.rules.specs.Replies.{actionsOf, enter, frontOf, memoryAfter, wordsOf, Reply}
+use Rattle.rules.specs.Replies.{accepted, failed, Done, did}
+use Rattle.rules.specs.Fences.{hypervisorsFit, idValid, rangeValid, Fence, functionOf}
 use Rattle.rules.specs.Sets.{bit, ones, Ascending}
 use Rattle.rules.specs.Platform.{width, enabled}
 use Rattle.rules.specs.Masks.{selected, selectionFits, reached, actionFor}
@@ -123,3 +125,48 @@ FencesAccepted = (p : Platform) (t : Tables) (room h : ℕ) (f : Fence) (q : Reg
 abbrev pub EventsAccepted : Type 0
 EventsAccepted = (p : Platform) (t : Tables) (h e : ℕ) → wellFormed p t ≡ true → enabled p h ≡ true
     → accepted (reply p t (event h e)) ≡ true ↔ e ≤ lastReported
+
+-- ----- actions: "An accepted start gives one action of kind 1 for its target; a wake from
+-- non-retentive sleep gives one for that hart with its stored address and opaque. Nothing else
+-- gives any."
+
+pub record GivesNothing (d : Done) : Type 0 where
+  pub actions : d .actions ≡ []
+  pub told : d .told ≡ []
+
+-- a wake of hart h, whose record before it was x
+pub record WakeGives (h : ℕ) (x : Hart) (d : Done) : Type 0 where
+  pub retentive : x .retentive ≡ true → d .actions ≡ []
+  pub nonRetentive : x .retentive ≡ false → d .actions ≡ enter h (x .address) (x .opaque) ∷ []
+  pub told : d .told ≡ []
+
+-- a call: `CallsReachExactly` has the actions of interrupts and fences
+pub record CallGives (q : Registers) (d : Done) : Type 0 where
+  pub start : q .a7 ≡ HSM → q .a6 ≡ 0 → d .actions ≡ enter (q .a0) (q .a1) (q .a2) ∷ []
+  pub told : (q .a7 ≡ IPI → ⊥) → (q .a7 ≡ RFENCE → ⊥) → d .told ≡ []
+  pub others : (q .a7 ≡ IPI → ⊥) → (q .a7 ≡ RFENCE → ⊥) → (q .a7 ≡ HSM → q .a6 ≡ 0 → ⊥)
+      → d .actions ≡ []
+
+abbrev pub Gives : Tables → Operation → Done → Type 0
+Gives t (call room h q) d = CallGives q d
+Gives t (completion room h) d = GivesNothing d
+Gives t (waking room h) d = WakeGives h (hartAt (t .harts) h) d
+Gives t (event h e) d = GivesNothing d
+
+abbrev pub ActionsExact : Type 0
+ActionsExact = (p : Platform) (t : Tables) (op : Operation) (d : Done) → reply p t op ≡ did d
+    → Gives t op d
+
+-- "action memory under 640 words": 640 words hold the actions of every operation
+abbrev pub ActionsFit : Type 0
+ActionsFit = (p : Platform) (t : Tables) (op : Operation)
+    → length (wordsOf (actionsOf (reply p t op))) ≤ actionMemory
+
+-- "The host gets back the filled front part of its own action memory; words after it keep their
+-- contents."
+pub record FrontLaid (r : Reply) (m : List ℕ) : Type 0 where
+  pub front : take (length (frontOf r)) (memoryAfter m r) ≡ frontOf r
+  pub rest : drop (length (frontOf r)) (memoryAfter m r) ≡ drop (length (frontOf r)) m
+
+abbrev pub FrontExact : Type 0
+FrontExact = (r : Reply) (m : List ℕ) → FrontLaid r m

@@ -17,5 +17,6 @@ pub mod Rows
 pub mod Edges
 pub mod Events
 pub mod Promises
+pub mod Refusals
 pub mod Deliveries
 pub mod Counting

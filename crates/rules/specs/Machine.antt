@@ -3,15 +3,16 @@
 --                     action memory were lent with it
 --   reply p t op      the answer's content, host refusals first
 --   after, afterAll   the tables after an operation, and after a history of them
+--   freshOver, freshAnswer   lent tables made fresh, and the answer to that
 use mathlib.Core.Bool.{Bool, false, not}
 use mathlib.Core.List.{List, [], _∷_}
 use Prim.Native.Nat.{ℕ}
 use lib.Dec.{ltb, eqb}
+use Rattle.rules.specs.Platform.{platformAccepted, enabled}
+use Rattle.rules.specs.Tables.{fresh, Tables, stateOf, wellFormed}
+use Rattle.rules.specs.Names.{success, actionMemory, counters, STARTED, notSupported}
+use Rattle.rules.specs.Names.{notWellFormed, notEnabled, notStarted, shortMemory}
 use Rattle.rules.specs.Choice.{if_then_else_}
-use Rattle.rules.specs.Names.{actionMemory, counters, STARTED, notSupported, notWellFormed}
-use Rattle.rules.specs.Names.{notEnabled, notStarted, shortMemory}
-use Rattle.rules.specs.Platform.{enabled}
-use Rattle.rules.specs.Tables.{Tables, stateOf, wellFormed}
 use Rattle.rules.specs.Replies.{View, view, Reply, refused, Plain, fails, gives, plain}
 use Rattle.rules.specs.Replies.{commit}
 use Rattle.rules.specs.Base.{specVersion, probed}
@@ -27,6 +28,8 @@ use Rattle.rules.specs.Requests.{baseArchitecture, baseMachine, baseProb
 use Rattle.rules.specs.Requests.{hartStatus, counterCount, counterDetails, counterConfigure}
 use Rattle.rules.specs.Requests.{counterStart, counterStop, counterRead, counterReadHigh}
 use Rattle.rules.specs.Requests.{unknown}
+use Rattle.rules.specs.declared.answers.Answer.{Answer}
+use Rattle.rules.specs.declared.answers.Answer.the-variants.{Pair, Refused}
 use Rattle.rules.specs.declared.platform.Platform.{Platform}
 use Rattle.rules.specs.declared.answers.Registers.{Registers}
 
@@ -111,3 +114,13 @@ after p t op = commit t (hartOf op) (reply p t op)
 abbrev pub afterAll : Platform → Tables → List Operation → Tables
 afterAll p t [] = t
 afterAll p t (op ∷ ops) = afterAll p (after p t op) ops
+
+-- ----- fresh tables: H1 for a platform that is not accepted, and the lent tables stay as they were
+
+unfoldable pub freshOver : Platform → Tables → Tables
+freshOver p t = if not (platformAccepted p) then t else fresh p
+
+unfoldable pub freshAnswer : Platform → Answer
+freshAnswer p =
+    if not (platformAccepted p) then Refused notWellFormed
+    else Pair success 0 false 0

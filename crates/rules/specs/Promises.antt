@@ -5,27 +5,18 @@ use mathlib.Core.Path.{_≡_}
 use mathlib.Core.Bool.{true, false}
 use mathlib.Core.List.{List, [], _∷_, _++_, map}
 use mathlib.Core.Logic.{_↔_}
-use Prim.Native.Nat.{_%_, _^_, _<_, ℕ, _+_}
-use lib.IntN.{ℤ}
+use Prim.Native.Nat.{_%_, _^_, ℕ, _+_}
 use Rattle.rules.specs.Lives.{suspend, Event, Life, row, events, Reading, placed}
 use Rattle.rules.specs.Names.{STOPPED, SUSPEND-PENDING, nonRetentiveType, retentiveType}
-use Rattle.rules.specs.Names.{lastReported, STARTED, HSM, harts, success, notSupported}
-use Rattle.rules.specs.Names.{invalidParam, invalidAddress, alreadyAvailable}
-use Rattle.rules.specs.Names.{alreadyStarted, alreadyStopped, noSharedMemory, notWellFormed}
-use Rattle.rules.specs.Names.{notEnabled, notStarted, shortMemory, stateForbids}
-use Rattle.rules.specs.Names.{notReportable}
+use Rattle.rules.specs.Names.{STARTED, HSM, harts, success}
 use Rattle.rules.specs.Tables.{blank, counterAt, idle, hartAt, Tables, stateOf, ownAt}
 use Rattle.rules.specs.Tables.{fresh, tablesWellFormed, TablesWellFormed, wellFormed}
-use Rattle.rules.specs.Machine.{event, waking, completion, isShort, Operation, call, hartOf}
-use Rattle.rules.specs.Machine.{reply, after}
-use Rattle.rules.specs.Harts.{doneOf, wakeOf}
+use Rattle.rules.specs.Machine.{Operation, call, hartOf, reply, after}
 use Rattle.rules.specs.Platform.{enabled, platformAccepted, PlatformAccepted}
-use Rattle.rules.specs.Replies.{Done, Reply, refused, failed, did, accepted, answerOf}
-use Rattle.rules.specs.Replies.{actionsOf, memoryAfter, register}
+use Rattle.rules.specs.Replies.{accepted, answerOf, actionsOf}
 use Rattle.rules.specs.Rows.{_does_, eventOf, tablesNow, rowNow, ready}
 use Rattle.rules.specs.Edges.{Edge, edges, computed}
 use Rattle.rules.specs.declared.records.Hart.{Hart}
-use Rattle.rules.specs.declared.records.Next.the-variants.{Forbidden}
 use Rattle.rules.specs.declared.platform.Platform.{Platform}
 use Rattle.rules.specs.declared.answers.Registers.{Registers}
 use Rattle.rules.specs.declared.answers.Answer.the-variants.{Pair}
@@ -62,84 +53,6 @@ pub record ReadOnce : Type 0 where
   pub fronts : (es : List Event) (r s : Reading es) → r .front ≡ s .front
   pub rows : (ls ls′ : List Life) → events (row ls) ≡ events (row ls′) → ls ≡ ls′
 
--- ----- demand 1
-
--- "Every refusal, error pairs included, leaves the tables and all action memory unaltered; the
--- front part handed back is then empty."
-pub record Unaltered (p : Platform) (t : Tables) (op : Operation) : Type 0 where
-  pub tables : after p t op ≡ t
-  pub actions : actionsOf (reply p t op) ≡ []
-  pub memory : (m : List ℕ) → memoryAfter m (reply p t op) ≡ m
-
-abbrev pub RefusalsAlterNothing : Type 0
-RefusalsAlterNothing = (p : Platform) (t : Tables) (op : Operation)
-    → accepted (reply p t op) ≡ false → Unaltered p t op
-
--- "Host refusals come instead of a pair, tested in this order": H1, H4, H2, and last H3, H5 or H6
-abbrev pub LastRefusal : Platform → Tables → Operation → Type 0
--- "a call from a hart not STARTED"
-LastRefusal p t (call room h q) = (stateOf (t .harts) h ≡ STARTED → ⊥)
-    → reply p t (call room h q) ≡ refused notStarted
--- "completion or wake that the hart's state does not allow"
-LastRefusal p t (completion room h) = doneOf (hartAt (t .harts) h) ≡ Forbidden
-    → reply p t (completion room h) ≡ refused stateForbids
-LastRefusal p t (waking room h) = wakeOf (hartAt (t .harts) h) ≡ Forbidden
-    → reply p t (waking room h) ≡ refused stateForbids
--- "reported firmware event code over 5"
-LastRefusal p t (event h e) = lastReported < e → reply p t (event h e) ≡ refused notReportable
-
-pub record HostRefusals (p : Platform) (t : Tables) (op : Operation) : Type 0 where
-  -- "platform or tables not well formed"
-  pub h1 : wellFormed p t ≡ false → reply p t op ≡ refused notWellFormed
-  -- "action memory under 640 words (calls, completions, wakes)"
-  pub h4 : wellFormed p t ≡ true → isShort op ≡ true → reply p t op ≡ refused shortMemory
-  -- "the hart number is not enabled or is over 127"
-  pub h2 : wellFormed p t ≡ true → isShort op ≡ false → enabled p (hartOf op) ≡ false
-      → reply p t op ≡ refused notEnabled
-  pub last : wellFormed p t ≡ true → isShort op ≡ false → enabled p (hartOf op) ≡ true
-      → LastRefusal p t op
-
-abbrev pub HostRefusalsInOrder : Type 0
-HostRefusalsInOrder = (p : Platform) (t : Tables) (op : Operation) → HostRefusals p t op
-
--- "A refusal gives its listed number": the errors and the host refusals that the rules give, by
--- their numbers
-pub data ListedError : ℤ → Type 0 where
-  is-2 : ListedError notSupported
-  is-3 : ListedError invalidParam
-  is-5 : ListedError invalidAddress
-  is-6 : ListedError alreadyAvailable
-  is-7 : ListedError alreadyStarted
-  is-8 : ListedError alreadyStopped
-  is-9 : ListedError noSharedMemory
-
-pub data ListedRefusal : ℕ → Type 0 where
-  is-H1 : ListedRefusal notWellFormed
-  is-H2 : ListedRefusal notEnabled
-  is-H3 : ListedRefusal notStarted
-  is-H4 : ListedRefusal shortMemory
-  is-H5 : ListedRefusal stateForbids
-  is-H6 : ListedRefusal notReportable
-
-pub data Listed : Reply → Type 0 where
-  listed-refusal : {k : ℕ} → ListedRefusal k → Listed (refused k)
-  listed-error : {e : ℤ} → ListedError e → Listed (failed e)
-  no-refusal : {d : Done} → Listed (did d)
-
-abbrev pub RefusalsListed : Type 0
-RefusalsListed = (p : Platform) (t : Tables) (op : Operation) → Listed (reply p t op)
-
--- "-3 stands in the register as 18446744073709551613": what a0 holds for success and each error
-abbrev pub errors : List ℤ
-errors =
-    success ∷ notSupported ∷ invalidParam ∷ invalidAddress ∷ alreadyAvailable ∷ alreadyStarted
-    ∷ alreadyStopped ∷ noSharedMemory ∷ []
-
-abbrev pub RegisterValues : Type 0
-RegisterValues = map register errors
-    ≡ 0 ∷ 18446744073709551614 ∷ 18446744073709551613 ∷ 18446744073709551611
-    ∷ 18446744073709551610 ∷ 18446744073709551609 ∷ 18446744073709551608 ∷ 18446744073709551607 ∷ []
-
 -- ----- well formed
 
 -- the tests say what the statements say
@@ -173,6 +86,7 @@ FreshExact = (p : Platform) → platformAccepted p ≡ true → FreshTables p
 -- "An accepted suspend writes the sleep note (retentive, 0, 0 for type 0)": hart h's record x after
 -- it
 pub record NoteWritten (q : Registers) (x : Hart) : Type 0 where
+  pub type : (q .a0 % 2 ^ 32 ≡ retentiveType → ⊥) → q .a0 % 2 ^ 32 ≡ nonRetentiveType
   pub retentive : q .a0 % 2 ^ 32 ≡ retentiveType → x ≡ idle SUSPEND-PENDING
   pub nonRetentive : q .a0 % 2 ^ 32 ≡ nonRetentiveType
       → x ≡ record

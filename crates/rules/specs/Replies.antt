@@ -4,6 +4,8 @@
 --   Plain, plain     the reply of a call that alters no hart record
 --   commit           the tables after a reply
 --   answerOf         the answer that the host gets for a reply
+--   pairOf           what a0 and a1 hold for an answer
+--   frontOf          the front part of the action memory that the host gets back
 --   memoryAfter      the action memory after a reply
 use mathlib.Core.Bool.{Bool, true, false, _&&_}
 use mathlib.Core.List.{List, [], _∷_, _++_, map}
@@ -143,6 +145,12 @@ answerOf (refused k) = Refused k
 answerOf (failed e) = Pair e 0 false 0
 answerOf (did d) = Pair success (d .value) (d .parked) (length (d .actions))
 
+-- "Where an answer is an enum, there is a definition that gives this paper's number and values for
+-- each of its cases.": what a0 and a1 hold for a pair; Hk gives none. "No other register changes."
+unfoldable pub pairOf : Answer → List ℕ
+pairOf (Pair e v k n) = register e ∷ v ∷ []
+pairOf (Refused k) = []
+
 -- "the front part handed back is then empty"
 unfoldable pub actionsOf : Reply → List Action
 actionsOf (refused k) = []
@@ -161,6 +169,10 @@ laid words memory = words ++ drop (length words) memory
 
 unfoldable pub memoryAfter : List ℕ → Reply → List ℕ
 memoryAfter memory r = laid (wordsOf (actionsOf r)) memory
+
+-- "The host gets back the filled front part"
+unfoldable pub frontOf : Reply → List ℕ
+frontOf r = wordsOf (actionsOf r)
 
 -- "1 enter at an address (start, opaque, 0)"
 abbrev pub enter : (target address opaque : ℕ) → Action
