@@ -6,7 +6,7 @@ use Prim.Native.Nat.{ℕ, _+_}
 use native.Mathlib.Omega.{arith}
 use lib.Dec.{eqb}
 use lib.IntN.{ℤ}
-use Rattle.rules.specs.Names.{harts, IPI, RFENCE, interruptKind, fenceKind, interruptSent}
+use Rattle.rules.specs.Names.{IPI, RFENCE, interruptKind, fenceKind, interruptSent}
 use Rattle.rules.specs.Choice.{if_then_else_}
 use Rattle.rules.specs.Tables.{Tables}
 use Rattle.rules.specs.Replies.{View, view, Done, did, Plain, fails, plain}

@@ -1,12 +1,19 @@
 -- The promises on refusals, errors and answers. Each statement stands under its sentence.
+use mathlib.Core.List.{List·Memᴰ, List, [], _∷_, map}
 use mathlib.Core.Bool.{Bool, _&&_, _||_, true, false}
 use mathlib.Core.Path.{_≡_}
-use mathlib.Core.List.{List, [], _∷_, map}
 use Prim.Native.Nat.{_<_, ℕ}
 use lib.ListN.{length}
 use lib.Dec.{eqb}
 use lib.IntN.{ℤ}
-use Rattle.rules.specs.Names.{lastReported, STARTED, HSM, harts, success, notSupported}
+use Rattle.rules.specs.Requests.{LifeRequest, PlainRequest, Request, baseArchitecture}
+use Rattle.rules.specs.Requests.{baseImplementation, baseImplementationVersion, baseMachine}
+use Rattle.rules.specs.Requests.{baseProbe, baseVendor, baseVersion, counterConfigure}
+use Rattle.rules.specs.Requests.{counterCount, counterDetails, counterRead, counterReadHigh}
+use Rattle.rules.specs.Requests.{counterStart, counterStop, fence, hartStart, hartStatus}
+use Rattle.rules.specs.Requests.{hartStop, hartSuspend, interrupt, life, other, request}
+use Rattle.rules.specs.Requests.{unknown}
+use Rattle.rules.specs.Names.{lastReported, STARTED, HSM, success, notSupported}
 use Rattle.rules.specs.Names.{invalidParam, invalidAddress, alreadyAvailable}
 use Rattle.rules.specs.Names.{alreadyStarted, alreadyStopped, noSharedMemory, notWellFormed}
 use Rattle.rules.specs.Names.{notEnabled, notStarted, shortMemory, stateForbids}
@@ -60,32 +67,58 @@ pub record HostRefusals (p : Platform) (t : Tables) (op : Operation) : Type 0 wh
 abbrev pub HostRefusalsInOrder : Type 0
 HostRefusalsInOrder = (p : Platform) (t : Tables) (op : Operation) → HostRefusals p t op
 
--- "A refusal gives its listed number": the errors and the host refusals that the rules give, by
--- their numbers
-pub data ListedError : ℤ → Type 0 where
-  is-2 : ListedError notSupported
-  is-3 : ListedError invalidParam
-  is-5 : ListedError invalidAddress
-  is-6 : ListedError alreadyAvailable
-  is-7 : ListedError alreadyStarted
-  is-8 : ListedError alreadyStopped
-  is-9 : ListedError noSharedMemory
+-- "A refusal gives its listed number": the errors that each request may be answered, in the order
+-- of its checks
+abbrev pub lifeErrors : LifeRequest → List ℤ
+lifeErrors (hartStart k a o) = invalidParam ∷ alreadyAvailable ∷ invalidAddress ∷ []
+lifeErrors hartStop = []
+lifeErrors (hartSuspend y a o) = invalidParam ∷ invalidAddress ∷ []
 
-pub data ListedRefusal : ℕ → Type 0 where
-  is-H1 : ListedRefusal notWellFormed
-  is-H2 : ListedRefusal notEnabled
-  is-H3 : ListedRefusal notStarted
-  is-H4 : ListedRefusal shortMemory
-  is-H5 : ListedRefusal stateForbids
-  is-H6 : ListedRefusal notReportable
+abbrev pub plainErrors : PlainRequest → List ℤ
+plainErrors baseVersion = []
+plainErrors baseImplementation = []
+plainErrors baseImplementationVersion = []
+plainErrors (baseProbe e) = []
+plainErrors baseVendor = []
+plainErrors baseArchitecture = []
+plainErrors baseMachine = []
+plainErrors (interrupt m base) = invalidParam ∷ []
+plainErrors (fence f m base s n i) = invalidParam ∷ notSupported ∷ invalidAddress ∷ []
+plainErrors (hartStatus k) = invalidParam ∷ []
+plainErrors counterCount = []
+plainErrors (counterDetails i) = invalidParam ∷ []
+plainErrors (counterConfigure base m flags e d) = invalidParam ∷ notSupported ∷ []
+plainErrors (counterStart base m flags x) = invalidParam ∷ noSharedMemory ∷ alreadyStarted ∷ []
+plainErrors (counterStop base m flags) = invalidParam ∷ noSharedMemory ∷ alreadyStopped ∷ []
+plainErrors (counterRead i) = invalidParam ∷ []
+plainErrors (counterReadHigh i) = invalidParam ∷ []
+plainErrors unknown = notSupported ∷ []
 
-pub data Listed : Reply → Type 0 where
-  listed-refusal : {k : ℕ} → ListedRefusal k → Listed (refused k)
-  listed-error : {e : ℤ} → ListedError e → Listed (failed e)
-  no-refusal : {d : Done} → Listed (did d)
+abbrev pub requestErrors : Request → List ℤ
+requestErrors (life q) = lifeErrors q
+requestErrors (other q) = plainErrors q
+
+-- completions, wakes and events are never answered an error
+abbrev pub errorsOf : Operation → List ℤ
+errorsOf (call room h q) = requestErrors (request q)
+errorsOf (completion room h) = []
+errorsOf (waking room h) = []
+errorsOf (event h e) = []
+
+-- the host refusals of each operation, in the order of their tests
+abbrev pub refusalsOf : Operation → List ℕ
+refusalsOf (call room h q) = notWellFormed ∷ shortMemory ∷ notEnabled ∷ notStarted ∷ []
+refusalsOf (completion room h) = notWellFormed ∷ shortMemory ∷ notEnabled ∷ stateForbids ∷ []
+refusalsOf (waking room h) = notWellFormed ∷ shortMemory ∷ notEnabled ∷ stateForbids ∷ []
+refusalsOf (event h e) = notWellFormed ∷ notEnabled ∷ notReportable ∷ []
+
+pub data Listed (op : Operation) : Reply → Type 0 where
+  listed-refusal : {k : ℕ} → List·Memᴰ k (refusalsOf op) → Listed op (refused k)
+  listed-error : {e : ℤ} → List·Memᴰ e (errorsOf op) → Listed op (failed e)
+  no-refusal : {d : Done} → Listed op (did d)
 
 abbrev pub RefusalsListed : Type 0
-RefusalsListed = (p : Platform) (t : Tables) (op : Operation) → Listed (reply p t op)
+RefusalsListed = (p : Platform) (t : Tables) (op : Operation) → Listed op (reply p t op)
 
 -- "-3 stands in the register as 18446744073709551613": what a0 holds for success and each error
 abbrev pub errors : List ℤ
