@@ -109,8 +109,7 @@ module _ (p : Platform) where
   pub fresh-fine : enabled p (p .boot) ≡ true → TablesWellFormed p (fresh p)
   unfolding fresh hartAt ownAt counterAt
   fresh-fine on = record {
-    records = length-set (replicate harts (idle STOPPED)) (p .boot) (idle STARTED)
-        ∙ length-replicate harts (idle STOPPED);
+    records = simp (length-set, length-replicate);
     rows = length-replicate harts (replicate counters blank);
     hart = λ h l.
         set-either (HartFine p h) (idle STOPPED) (replicate harts (idle STOPPED)) (p .boot) h (idle STARTED)

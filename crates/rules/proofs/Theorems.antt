@@ -1,4 +1,4 @@
--- A theorem for each statement of specs/Promises, under its name. Assumes nothing.
+-- A theorem for each statement of specs/Promises, Refusals, Deliveries and Counting, under its name. Assumes nothing.
 use mathlib.Core.Path.{refl}
 use Rattle.rules.specs.Deliveries.{ActionsExact, ActionsFit, FrontExact, EventsAccepted, FencesAccepted}
 use Rattle.rules.specs.Deliveries.{InterruptsAccepted, MasksExact, CallsReachExactly}
@@ -33,7 +33,7 @@ use Rattle.rules.proofs.Traffic as Traffic
 pub lives-hold : LivesHold
 lives-hold = Demand3.lives-hold
 
--- any two readings of a row are equal
+-- two readings of the same events agree in every event and status; a whole row settles its lives
 pub read-once : ReadOnce
 read-once = record { fronts = λ es r s. one-reading r s; rows = one-row }
 

@@ -18,7 +18,6 @@ use Rattle.rules.specs.Requests.{LifeRequest, hartStart, hartStop, hartS
 use Rattle.rules.specs.Machine.{lifeReply, requestReply, call, completion, waking, checkedReply, enabledReply}
 use Rattle.rules.specs.Machine.{Operation, event, hartOf, reply, after}
 use Rattle.rules.specs.Rows.{InRow, requestEvent, eventOf}
-use Rattle.rules.specs.Names.{harts}
 use Rattle.rules.specs.Tables.{Tables, ownAt, counterAt}
 use Rattle.rules.specs.Counters.{eventReply}
 use Rattle.rules.specs.Events.{times, others, occurs}

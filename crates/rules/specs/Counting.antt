@@ -6,7 +6,7 @@ use mathlib.Core.List.{[], _∷_, List·Memᴰ}
 use mathlib.Core.Logic.{_↔_}
 use Prim.Native.Nat.{ℕ, _+_, _^_, _%_, _<_, _≤_}
 use Rattle.rules.specs.Sets.{bit, Ascending, all}
-use Rattle.rules.specs.Names.{harts, counters}
+use Rattle.rules.specs.Names.{counters}
 use Rattle.rules.specs.Platform.{width}
 use Rattle.rules.specs.Tables.{Tables, ownAt, counterAt}
 use Rattle.rules.specs.Replies.{Done, did, accepted, counted}
@@ -29,6 +29,7 @@ pub record CountsExactly (e : ℕ) (c : Counter) : Type 0 where
   pub unmapped : c .mapped ≡ false → counted e c ≡ c
   pub elsewhere : (c .code ≡ e → ⊥) → counted e c ≡ c
 
+-- of every event code and every counter
 abbrev pub EventsAddOne : Type 0
 EventsAddOne = (e : ℕ) (c : Counter) → CountsExactly e c
 
@@ -41,6 +42,7 @@ pub record CounterSetExact (p : Platform) (base m : ℕ) : Type 0 where
       → all isCounter (counterSet p base m) ≡ false
   pub ascending : Ascending (counterSet p base m)
 
+-- of every set
 abbrev pub CounterSetsExact : Type 0
 CounterSetsExact = (p : Platform) (base m : ℕ) → CounterSetExact p base m
 
@@ -51,6 +53,7 @@ pub record EventCounted (p : Platform) (t : Tables) (h e : ℕ) : Type 0 where
   pub others : (k : ℕ) → (k ≡ h → ⊥) → ownAt (after p t (event h e)) k ≡ ownAt t k
   pub harts : after p t (event h e) .harts ≡ t .harts
 
+-- of every reported event that is accepted
 abbrev pub EventsCounted : Type 0
 EventsCounted = (p : Platform) (t : Tables) (h e : ℕ) → accepted (reply p t (event h e)) ≡ true
     → EventCounted p t h e
@@ -64,6 +67,7 @@ pub record TrafficCounted (p : Platform) (t : Tables) (op : Operation) (d : Done
       → (i : ℕ) → counterAt (ownAt (after p t op) k) i
       ≡ times (occurs k (d .told)) (counted (d .code + 1)) (counterAt (ownAt t k) i)
 
+-- of every operation that is done
 abbrev pub TrafficCountedExactly : Type 0
 TrafficCountedExactly = (p : Platform) (t : Tables) (op : Operation) (d : Done)
     → reply p t op ≡ did d → TrafficCounted p t op d

@@ -24,6 +24,7 @@ use Rattle.rules.specs.declared.answers.Registers.{Registers}
 
 -- ----- masks: "A hart mask reaches exactly the harts that the rules name."
 
+-- of the mask m with this base
 pub record MaskExact (p : Platform) (m base : ℕ) : Type 0 where
   -- "With base 2^64 - 1 the mask is ignored and all enabled harts are selected."
   pub everyone : base ≡ ones (width p) → (h : ℕ) → List·Memᴰ h (selected p m base)
@@ -46,6 +47,7 @@ pub record MaskExact (p : Platform) (m base : ℕ) : Type 0 where
       × (stateOf hs h ≡ STOP-PENDING → ⊥))
   pub reachedAscending : (hs : List Hart) → Ascending (reached p hs m base)
 
+-- of every mask and base
 abbrev pub MasksExact : Type 0
 MasksExact = (p : Platform) (m base : ℕ) → MaskExact p m base
 
@@ -70,6 +72,7 @@ pub record CallsReach (p : Platform) (t : Tables) (h : ℕ) (q : Registers) (d :
       → Sends p t h q d (fenceKind + functionOf f) (startIn (operandsOf f) q)
       (sizeIn (operandsOf f) q) (idIn (operandsOf f) q) (sentEvent f)
 
+-- of every call that is done
 abbrev pub CallsReachExactly : Type 0
 CallsReachExactly = (p : Platform) (t : Tables) (room h : ℕ) (q : Registers) (d : Done)
     → reply p t (call room h q) ≡ did d → CallsReach p t h q d
@@ -88,6 +91,7 @@ pub record InterruptAnswered (p : Platform) (r : Reply) (q : Registers) : Type 0
   pub accepts : accepted r ≡ true ↔ selectionFits p (q .a0) (q .a1) ≡ true
   pub noHarts : selectionFits p (q .a0) (q .a1) ≡ false → r ≡ failed invalidParam
 
+-- of every interrupt of a caller that can call
 abbrev pub InterruptsAccepted : Type 0
 InterruptsAccepted = (p : Platform) (t : Tables) (room h : ℕ) (q : Registers) → CanCall p t room h
     → q .a7 ≡ IPI → q .a6 ≡ 0
@@ -101,6 +105,7 @@ pub record FenceFits (p : Platform) (f : Fence) (q : Registers) : Type 0 where
   pub hypervisors : hypervisorsFit p (functionOf f) (selected p (q .a0) (q .a1)) ≡ true
   pub range : rangeValid (width p) (startIn (operandsOf f) q) (sizeIn (operandsOf f) q) ≡ true
 
+-- the reply r to a fence: accepted if all four fit, else by the first that does not
 pub record FenceAnswered (p : Platform) (f : Fence) (r : Reply) (q : Registers) : Type 0 where
   pub accepts : accepted r ≡ true ↔ FenceFits p f q
   pub noHarts : selectionFits p (q .a0) (q .a1) ≡ false → r ≡ failed invalidParam
@@ -116,6 +121,7 @@ pub record FenceAnswered (p : Platform) (f : Fence) (r : Reply) (q : Registers) 
       → rangeValid (width p) (startIn (operandsOf f) q) (sizeIn (operandsOf f) q) ≡ false
       → r ≡ failed invalidAddress
 
+-- of every fence of a caller that can call
 abbrev pub FencesAccepted : Type 0
 FencesAccepted = (p : Platform) (t : Tables) (room h : ℕ) (f : Fence) (q : Registers)
     → CanCall p t room h → q .a7 ≡ RFENCE → q .a6 ≡ functionOf f
@@ -130,6 +136,7 @@ EventsAccepted = (p : Platform) (t : Tables) (h e : ℕ) → wellFormed p t ≡ 
 -- non-retentive sleep gives one for that hart with its stored address and opaque. Nothing else
 -- gives any."
 
+-- no action, and nobody told
 pub record GivesNothing (d : Done) : Type 0 where
   pub actions : d .actions ≡ []
   pub told : d .told ≡ []
@@ -147,12 +154,14 @@ pub record CallGives (q : Registers) (d : Done) : Type 0 where
   pub others : (q .a7 ≡ IPI → ⊥) → (q .a7 ≡ RFENCE → ⊥) → (q .a7 ≡ HSM → q .a6 ≡ 0 → ⊥)
       → d .actions ≡ []
 
+-- by operation
 abbrev pub Gives : Tables → Operation → Done → Type 0
 Gives t (call room h q) d = CallGives q d
 Gives t (completion room h) d = GivesNothing d
 Gives t (waking room h) d = WakeGives h (hartAt (t .harts) h) d
 Gives t (event h e) d = GivesNothing d
 
+-- of every operation that is done
 abbrev pub ActionsExact : Type 0
 ActionsExact = (p : Platform) (t : Tables) (op : Operation) (d : Done) → reply p t op ≡ did d
     → Gives t op d
@@ -168,5 +177,6 @@ pub record FrontLaid (r : Reply) (m : List ℕ) : Type 0 where
   pub front : take (length (frontOf r)) (memoryAfter m r) ≡ frontOf r
   pub rest : drop (length (frontOf r)) (memoryAfter m r) ≡ drop (length (frontOf r)) m
 
+-- of every reply and every action memory
 abbrev pub FrontExact : Type 0
 FrontExact = (r : Reply) (m : List ℕ) → FrontLaid r m

@@ -19,6 +19,7 @@ pub data Fence : Type 0 where
   FENCE-I SFENCE-VMA SFENCE-VMA-ASID : Fence
   HFENCE-GVMA-VMID HFENCE-GVMA HFENCE-VVMA-ASID HFENCE-VVMA : Fence
 
+-- "Fences FID 0 to 6": the function of each
 abbrev pub functionOf : Fence → ℕ
 functionOf FENCE-I = 0
 functionOf SFENCE-VMA = 1
@@ -32,6 +33,7 @@ functionOf HFENCE-VVMA = 6
 abbrev pub sentCodes : List ℕ
 sentCodes = 8 ∷ 10 ∷ 12 ∷ 16 ∷ 14 ∷ 20 ∷ 18 ∷ []
 
+-- the code of a fence by its function
 unfoldable pub sentCode : (fid : ℕ) → ℕ
 sentCode f = getD sentCodes f 0
 

@@ -35,11 +35,13 @@ use Rattle.rules.specs.declared.answers.Registers.{Registers}
 
 -- ----- the reply to a call of the running hart h
 
+-- to a call that stands in a row
 unfoldable pub lifeReply : Platform → View → (h : ℕ) → LifeRequest → Reply
 lifeReply p v h (hartStart k a o) = startReply p v k a o
 lifeReply p v h hartStop = stopReply v h
 lifeReply p v h (hartSuspend y a o) = suspendReply p v h y a o
 
+-- to every other call
 unfoldable pub plainReply : Platform → View → PlainRequest → Plain
 plainReply p v baseVersion = gives specVersion (v .own)
 plainReply p v baseImplementation = gives (p .implementation) (v .own)
@@ -60,12 +62,14 @@ plainReply p v (counterRead i) = readReply (v .own) i
 plainReply p v (counterReadHigh i) = readHighReply (v .own) i
 plainReply p v unknown = fails notSupported
 
+-- to any call
 unfoldable pub requestReply : Platform → View → (h : ℕ) → Request → Reply
 requestReply p v h (life q) = lifeReply p v h q
 requestReply p v h (other q) = plain v (plainReply p v q)
 
 -- ----- operations
 
+-- what the host asks for, of hart h
 pub data Operation : Type 0 where
   call : (room h : ℕ) → Registers → Operation
   completion : (room h : ℕ) → Operation
@@ -108,18 +112,22 @@ reply p t op = if not (wellFormed p t) then refused notWellFormed else checkedRe
 
 -- ----- the tables after
 
+-- after one operation
 unfoldable pub after : Platform → Tables → Operation → Tables
 after p t op = commit t (hartOf op) (reply p t op)
 
+-- after a history of them
 abbrev pub afterAll : Platform → Tables → List Operation → Tables
 afterAll p t [] = t
 afterAll p t (op ∷ ops) = afterAll p (after p t op) ops
 
 -- ----- fresh tables: H1 for a platform that is not accepted, and the lent tables stay as they were
 
+-- the lent tables after they were made fresh
 unfoldable pub freshOver : Platform → Tables → Tables
 freshOver p t = if not (platformAccepted p) then t else fresh p
 
+-- the answer to that
 unfoldable pub freshAnswer : Platform → Answer
 freshAnswer p =
     if not (platformAccepted p) then Refused notWellFormed

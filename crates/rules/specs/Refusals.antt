@@ -36,6 +36,7 @@ pub record Unaltered (p : Platform) (t : Tables) (op : Operation) : Type 0 where
   pub actions : actionsOf (reply p t op) ≡ []
   pub memory : (m : List ℕ) → memoryAfter m (reply p t op) ≡ m
 
+-- of every operation that is refused or answered an error
 abbrev pub RefusalsAlterNothing : Type 0
 RefusalsAlterNothing = (p : Platform) (t : Tables) (op : Operation)
     → accepted (reply p t op) ≡ false → Unaltered p t op
@@ -53,6 +54,7 @@ LastRefusal p t (waking room h) = wakeOf (hartAt (t .harts) h) ≡ Forbidden
 -- "reported firmware event code over 5"
 LastRefusal p t (event h e) = lastReported < e → reply p t (event h e) ≡ refused notReportable
 
+-- each refusal is given if its test fails and those before it pass
 pub record HostRefusals (p : Platform) (t : Tables) (op : Operation) : Type 0 where
   -- "platform or tables not well formed"
   pub h1 : wellFormed p t ≡ false → reply p t op ≡ refused notWellFormed
@@ -64,6 +66,7 @@ pub record HostRefusals (p : Platform) (t : Tables) (op : Operation) : Type 0 wh
   pub last : wellFormed p t ≡ true → isShort op ≡ false → enabled p (hartOf op) ≡ true
       → LastRefusal p t op
 
+-- of every operation
 abbrev pub HostRefusalsInOrder : Type 0
 HostRefusalsInOrder = (p : Platform) (t : Tables) (op : Operation) → HostRefusals p t op
 
@@ -74,6 +77,7 @@ lifeErrors (hartStart k a o) = invalidParam ∷ alreadyAvailable ∷ invalidAddr
 lifeErrors hartStop = []
 lifeErrors (hartSuspend y a o) = invalidParam ∷ invalidAddress ∷ []
 
+-- those of the requests that alter no hart record
 abbrev pub plainErrors : PlainRequest → List ℤ
 plainErrors baseVersion = []
 plainErrors baseImplementation = []
@@ -94,6 +98,7 @@ plainErrors (counterRead i) = invalidParam ∷ []
 plainErrors (counterReadHigh i) = invalidParam ∷ []
 plainErrors unknown = notSupported ∷ []
 
+-- those of any request
 abbrev pub requestErrors : Request → List ℤ
 requestErrors (life q) = lifeErrors q
 requestErrors (other q) = plainErrors q
@@ -112,11 +117,13 @@ refusalsOf (completion room h) = notWellFormed ∷ shortMemory ∷ notEnabled �
 refusalsOf (waking room h) = notWellFormed ∷ shortMemory ∷ notEnabled ∷ stateForbids ∷ []
 refusalsOf (event h e) = notWellFormed ∷ notEnabled ∷ notReportable ∷ []
 
+-- a reply that is listed for this operation
 pub data Listed (op : Operation) : Reply → Type 0 where
   listed-refusal : {k : ℕ} → List·Memᴰ k (refusalsOf op) → Listed op (refused k)
   listed-error : {e : ℤ} → List·Memᴰ e (errorsOf op) → Listed op (failed e)
   no-refusal : {d : Done} → Listed op (did d)
 
+-- of every operation
 abbrev pub RefusalsListed : Type 0
 RefusalsListed = (p : Platform) (t : Tables) (op : Operation) → Listed op (reply p t op)
 
@@ -126,6 +133,7 @@ errors =
     success ∷ notSupported ∷ invalidParam ∷ invalidAddress ∷ alreadyAvailable ∷ alreadyStarted
     ∷ alreadyStopped ∷ noSharedMemory ∷ []
 
+-- 2^64 less the size of each error
 abbrev pub RegisterValues : Type 0
 RegisterValues = map register errors
     ≡ 0 ∷ 18446744073709551614 ∷ 18446744073709551613 ∷ 18446744073709551611
@@ -138,6 +146,7 @@ isParking (completion room h) = false
 isParking (waking room h) = false
 isParking (event h e) = false
 
+-- of every operation that is done
 abbrev pub ParkedExactly : Type 0
 ParkedExactly = (p : Platform) (t : Tables) (op : Operation) (d : Done) → reply p t op ≡ did d
     → d .parked ≡ isParking op
@@ -150,5 +159,6 @@ pub record AnswerExact (r : Reply) : Type 0 where
   pub done : (d : Done) → r ≡ did d
       → answerOf r ≡ Pair success (d .value) (d .parked) (length (d .actions))
 
+-- of every operation
 abbrev pub AnswersExact : Type 0
 AnswersExact = (p : Platform) (t : Tables) (op : Operation) → AnswerExact (reply p t op)
