@@ -11,7 +11,7 @@ use Rattle.rules.specs.Choice.{if_then_else_}
 use Rattle.rules.specs.Tables.{counterAt}
 use Rattle.rules.specs.Replies.{counted, countAt, tellOne, tell}
 use Rattle.rules.specs.Events.{times, others, occurs}
-use Rattle.rules.specs.Promises.{EventsAddOne}
+use Rattle.rules.specs.Counting.{EventsAddOne}
 use Rattle.rules.specs.declared.records.Counter.{Counter}
 use Rattle.rules.proofs.Logic.{if-true, if-false, by-cases, below-or, clash, false-if, and-l, and-r, and-of}
 use Rattle.rules.proofs.Logic.{same-test}

@@ -6,7 +6,7 @@ use Prim.Native.Nat.{ℕ}
 use lib.Dec.{leb, eqb}
 use borrow.Author.Tests.{eqb-true, eq-eqb, le-ltb, leb-true}
 use Rattle.rules.specs.Choice.{if_then_else_}
-use Rattle.rules.specs.Names.{STARTED, STOPPED, HSM, actionMemory, harts, success}
+use Rattle.rules.specs.Names.{STARTED, STOPPED, HSM, actionMemory, success}
 use Rattle.rules.specs.Platform.{enabled, platformAccepted}
 use Rattle.rules.specs.Tables.{Tables, stateOf, fresh, TablesWellFormed}
 use Rattle.rules.specs.Replies.{view, accepted, plain, answerOf}

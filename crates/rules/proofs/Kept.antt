@@ -4,6 +4,7 @@ use mathlib.Core.Bool.{true, false}
 use mathlib.Core.List.{List, [], _∷_, map}
 use Prim.Native.Nat.{ℕ, _+_, _-_, _<_, zero-le}
 use native.Mathlib.Omega.{arith}
+use lib.IntN.{ℤ}
 use lib.Dec.{eqb}
 use lib.ListN.{getD, set, length, length-set, replicate, length-replicate, getD-replicate}
 use borrow.Author.Tests.{not-false}
@@ -72,8 +73,9 @@ module _ (p : Platform) where
             (λ e. subst (λ (i : ℕ). HartFine p i x) (sym e) ok) (f j l),
       )
 
-  commit-kept : (t : Tables) (h : ℕ) → enabled p h ≡ true → TablesWellFormed p t → {es : List InRow} (r : Reply)
-      → Lawful p (t .harts) es r → ReplyFine r → TablesWellFormed p (commit t h r)
+  commit-kept : (t : Tables) (h : ℕ) → enabled p h ≡ true → TablesWellFormed p t
+      → {es : List InRow} {ks : List ℕ} {xs : List ℤ} (r : Reply)
+      → Lawful p (t .harts) es r → ReplyFine ks xs r → TablesWellFormed p (commit t h r)
   unfolding commit ownAt
   commit-kept t h on w (refused k) e f = w
   commit-kept t h on w (failed k) e f = w
@@ -107,8 +109,7 @@ module _ (p : Platform) where
   pub fresh-fine : enabled p (p .boot) ≡ true → TablesWellFormed p (fresh p)
   unfolding fresh hartAt ownAt counterAt
   fresh-fine on = record {
-    records = length-set (replicate harts (idle STOPPED)) (p .boot) (idle STARTED)
-        ∙ length-replicate harts (idle STOPPED);
+    records = simp (length-set, length-replicate);
     rows = length-replicate harts (replicate counters blank);
     hart = λ h l.
         set-either (HartFine p h) (idle STOPPED) (replicate harts (idle STOPPED)) (p .boot) h (idle STARTED)

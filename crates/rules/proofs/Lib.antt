@@ -12,6 +12,7 @@ pub mod HartWays
 pub mod CounterWays
 pub mod RequestWays
 pub mod HostWays
+pub mod HostOrder
 pub mod Tracks
 pub mod Accepts
 pub mod Demand3
@@ -21,5 +22,9 @@ pub mod Refusals
 pub mod Counting
 pub mod Passed
 pub mod Traffic
+pub mod Notes
 pub mod Reach
+pub mod SendsAccepted
+pub mod Deeds
+pub mod ActionsGiven
 pub mod Theorems

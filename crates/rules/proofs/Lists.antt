@@ -1,6 +1,6 @@
 -- Lists as tables: what stands at a place after a store.
+use mathlib.Core.List.{List·Memᴰ, List·Memᴰ·head, List·Memᴰ·tail, List, [], _∷_}
 use mathlib.Core.Path.{_≡_, refl, ap}
-use mathlib.Core.List.{List, [], _∷_}
 use Prim.Native.Nat.{ℕ, zero, suc}
 use lib.ListN.{getD, set, replicate, getD-replicate, length-replicate, List·getD-eq-default}
 use Rattle.rules.proofs.Logic.{below-or}
@@ -19,3 +19,16 @@ module _ {A : Type 0} where
   pub getD-repeat : (n j : ℕ) (a : A) → getD (replicate n a) j a ≡ a
   getD-repeat n j a = below-or j n (getD-replicate n j a a)
       (λ g. List·getD-eq-default (replicate n a) a (rw (length-replicate n a) g))
+
+  -- the first four of a list stand in it
+  pub first-in : {a : A} {l : List A} → List·Memᴰ a (a ∷ l)
+  first-in = List·Memᴰ·head refl
+
+  pub second-in : {a b : A} {l : List A} → List·Memᴰ a (b ∷ a ∷ l)
+  second-in = List·Memᴰ·tail first-in
+
+  pub third-in : {a b c : A} {l : List A} → List·Memᴰ a (b ∷ c ∷ a ∷ l)
+  third-in = List·Memᴰ·tail second-in
+
+  pub fourth-in : {a b c d : A} {l : List A} → List·Memᴰ a (b ∷ c ∷ d ∷ a ∷ l)
+  fourth-in = List·Memᴰ·tail third-in

@@ -1,24 +1,39 @@
 -- A mask reaches exactly the harts that the rules name.
-use mathlib.Core.Path.{_≡_, sym, _∙_, subst}
+use mathlib.Core.Path.{refl, _≡_, sym, _∙_, subst}
 use mathlib.Core.Bool.{true, false}
 use mathlib.Core.List.{List, List·Memᴰ}
 use mathlib.Core.Logic.{_↔_}
 use Prim.Native.Nat.{ℕ, _+_, _<_, _≤_}
-use borrow.Author.Tests.{eq-eqb, ne-eqb, le-ltb}
+use lib.Dec.{eqb}
+use borrow.Author.Tests.{not-true, eq-eqb, ne-eqb, le-ltb}
+use Rattle.rules.specs.Tables.{stateOf}
+use Rattle.rules.specs.Names.{STOP-PENDING, STOPPED, harts, counters}
 use Rattle.rules.specs.Choice.{if_then_else_}
 use Rattle.rules.specs.Sets.{bit, ones, those, numbers, names, Ascending, all}
-use Rattle.rules.specs.Names.{harts, counters}
 use Rattle.rules.specs.Platform.{width, enabled}
 use Rattle.rules.specs.Masks.{selected, selectionFits, isReached, reached}
 use Rattle.rules.specs.Counters.{counterSet, isCounter}
-use Rattle.rules.specs.Promises.{CounterSetsExact, MasksExact}
+use Rattle.rules.specs.Deliveries.{MasksExact}
+use Rattle.rules.specs.Counting.{CounterSetsExact}
 use Rattle.rules.specs.declared.platform.Platform.{Platform}
 use Rattle.rules.specs.declared.records.Hart.{Hart}
-use Rattle.rules.proofs.Logic.{if-true, if-false, if-both, clash, false-if}
+use Rattle.rules.proofs.Logic.{or-l, or-of, if-true, if-false, if-both, clash, false-if}
 use Rattle.rules.proofs.SetLaws.{those-in, those-only}
 use Rattle.rules.proofs.Ascending.{those-ascending, numbers-ascending, keep-ascending, keep-in, keep-only}
 use Rattle.rules.proofs.Ascending.{all-in, all-of, numbers-in, numbers-only, numbers-those}
 use Rattle.rules.proofs.WellFormed.{enabled-under, enabled-over}
+
+-- the test of a hart's state says what its sentence says
+reached-states : (hs : List Hart) (h : ℕ)
+    → isReached hs h ≡ true ↔ ((stateOf hs h ≡ STOPPED → ⊥) × (stateOf hs h ≡ STOP-PENDING → ⊥))
+unfolding isReached
+reached-states hs h = (
+  λ e. (
+    λ s. clash (or-l _ (eqb (stateOf hs h) STOP-PENDING) (eq-eqb _ _ s)) (not-true _ e),
+    λ s. clash (or-of (eqb (stateOf hs h) STOPPED) _ (λ _. eq-eqb _ _ s)) (not-true _ e),
+  ),
+  λ n. rw (ne-eqb _ _ (n .0), ne-eqb _ _ (n .1)) refl,
+)
 
 module _ (p : Platform) (m base : ℕ) where
   -- ----- the two kinds of base
@@ -78,12 +93,14 @@ module _ (p : Platform) (m base : ℕ) where
   ascending = if-both Ascending _ (λ _. those-ascending harts (enabled p)) (λ _. numbers-ascending (width p) base m)
 
   reaches : (hs : List Hart) (h : ℕ) → List·Memᴰ h (reached p hs m base)
-      ↔ (List·Memᴰ h (selected p m base) × (isReached hs h ≡ true))
+      ↔ (List·Memᴰ h (selected p m base) × (stateOf hs h ≡ STOPPED → ⊥) × (stateOf hs h ≡ STOP-PENDING → ⊥))
   unfolding reached
   reaches hs h = (
-    λ t. keep-only (isReached hs) (selected p m base) t,
-    λ r. keep-in (isReached hs) (selected p m base) (r .0)
-        (r .1),
+    λ t.
+        let r = keep-only (isReached hs) (selected p m base) t in
+        let s = reached-states hs h .0 (r .1) in
+        (r .0, s .0, s .1),
+    λ r. keep-in (isReached hs) (selected p m base) (r .0) (reached-states hs h .1 (r .1, r .2)),
   )
 
   reachedAscending : (hs : List Hart) → Ascending (reached p hs m base)

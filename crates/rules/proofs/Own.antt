@@ -1,7 +1,7 @@
 -- What every operation gives its caller: a listed refusal or error, or eight counters that are fine.
+use mathlib.Core.List.{List·Memᴰ, List, [], _∷_, map}
 use mathlib.Core.Path.{_≡_, refl, ap, sym, _∙_, subst}
 use mathlib.Core.Bool.{Bool, true, false}
-use mathlib.Core.List.{List, [], _∷_, map}
 use mathlib.Core.Option.{Option, none, some}
 use Prim.Native.Nat.{ℕ, _-_, _≤_, zero-le}
 use native.Mathlib.Omega.{arith}
@@ -9,9 +9,11 @@ use lib.Dec.{leb}
 use lib.IntN.{ℤ}
 use lib.ListN.{getD, set, length, length-set, length-map, List·getD-map}
 use borrow.Author.Tests.{leb-true, not-false}
+use Rattle.rules.specs.Refusals.{errorsOf, plainErrors, refusalsOf, requestErrors}
+use Rattle.rules.specs.Names.{invalidParam, notEnabled, notSupported, notWellFormed, shortMemory, stateForbids}
+use Rattle.rules.specs.Names.{counters, firstEvent, lastEvent, lastCode}
 use Rattle.rules.specs.Choice.{if_then_else_}
 use Rattle.rules.specs.Sets.{bit, all}
-use Rattle.rules.specs.Names.{counters, firstEvent, lastEvent, lastCode}
 use Rattle.rules.specs.Tables.{blank, counterAt, CounterFine}
 use Rattle.rules.specs.Replies.{View, Done, Reply, refused, failed, did, moves, Plain, fails, gives, sends}
 use Rattle.rules.specs.Replies.{plain, counted}
@@ -28,16 +30,14 @@ use Rattle.rules.specs.Requests.{counterCount, counterDetails, counterCo
 use Rattle.rules.specs.Requests.{counterRead, counterReadHigh, unknown}
 use Rattle.rules.specs.Machine.{lifeReply, plainReply, requestReply, Operation, call, completion, waking, event}
 use Rattle.rules.specs.Machine.{enabledReply}
-use Rattle.rules.specs.Promises.{ListedError, is-2, is-3, is-5, is-6, is-7, is-8, is-9, ListedRefusal, is-H3}
-use Rattle.rules.specs.Promises.{is-H5, is-H6}
 use Rattle.rules.specs.declared.platform.Platform.{Platform}
 use Rattle.rules.specs.declared.records.Hart.{Hart}
 use Rattle.rules.specs.declared.records.Counter.{Counter}
 use Rattle.rules.specs.declared.records.Next.{Next}
 use Rattle.rules.specs.declared.records.Next.the-variants.{To, Forbidden}
 use Rattle.rules.specs.declared.actions.Action.{Action}
+use Rattle.rules.proofs.Lists.{first-in, fourth-in, second-in, third-in, set-either}
 use Rattle.rules.proofs.Logic.{if-both, by-cases, clash, and-l, and-r, and-of, false-true}
-use Rattle.rules.proofs.Lists.{set-either}
 
 -- ----- eight counters that are fine
 
@@ -102,22 +102,25 @@ begun-fine flags x (i ∷ is) cs a f =
     (set-fine cs i (begun flags x (counterAt cs i))
     (record { codes = f .1 i .codes; runs = λ _. m; canonical = f .1 i .canonical }) f)
 
-data PlainFine : Plain → Type 0 where
-  f-fails : {e : ℤ} → ListedError e → PlainFine (fails e)
-  f-gives : {n : ℕ} {cs : List Counter} → Fine cs → PlainFine (gives n cs)
-  f-sends : {acts : List Action} {c : ℕ} {ks : List ℕ} → PlainFine (sends acts c ks)
+-- an error of these, or counters that are fine
+data PlainFine (es : List ℤ) : Plain → Type 0 where
+  f-fails : {e : ℤ} → List·Memᴰ e es → PlainFine es (fails e)
+  f-gives : {n : ℕ} {cs : List Counter} → Fine cs → PlainFine es (gives n cs)
+  f-sends : {acts : List Action} {c : ℕ} {ks : List ℕ} → PlainFine es (sends acts c ks)
 
-walk : {b : Bool} {x y : Plain} → (b ≡ true → PlainFine x) → (b ≡ false → PlainFine y) → PlainFine (if b then x else y)
-walk {b} f g = if-both PlainFine b f g
+walk : {es : List ℤ} {b : Bool} {x y : Plain} → (b ≡ true → PlainFine es x) → (b ≡ false → PlainFine es y)
+    → PlainFine es (if b then x else y)
+walk {es} {b} f g = if-both (PlainFine es) b f g
 
 chosen-fine : (flags e : ℕ) (cs : List Counter) → e ≤ lastCode → Fine cs → (o : Option ℕ)
-    → PlainFine (configureChosen flags e cs o)
+    → PlainFine (invalidParam ∷ notSupported ∷ []) (configureChosen flags e cs o)
 unfolding configureChosen
-chosen-fine flags e cs l f none = f-fails is-2
+chosen-fine flags e cs l f none = f-fails second-in
 chosen-fine flags e cs l f (some i) =
     f-gives (set-fine cs i (configured flags e (counterAt cs i)) (configured-fine flags e (counterAt cs i) l) f)
 
-plain-fine : (p : Platform) (v : View) → Fine (v .own) → (q : PlainRequest) → PlainFine (plainReply p v q)
+plain-fine : (p : Platform) (v : View) → Fine (v .own) → (q : PlainRequest)
+    → PlainFine (plainErrors q) (plainReply p v q)
 unfolding plainReply interruptReply fenceReply sendTo statusReply detailsReply configureReply counterStartReply counterStopReply readReply readHighReply
 plain-fine p v f baseVersion = f-gives f
 plain-fine p v f baseImplementation = f-gives f
@@ -126,30 +129,31 @@ plain-fine p v f (baseProbe e) = f-gives f
 plain-fine p v f baseVendor = f-gives f
 plain-fine p v f baseArchitecture = f-gives f
 plain-fine p v f baseMachine = f-gives f
-plain-fine p v f (interrupt m base) = walk (λ _. f-fails is-3) (λ _. f-sends)
+plain-fine p v f (interrupt m base) = walk (λ _. f-fails first-in) (λ _. f-sends)
 plain-fine p v f (fence k m base s n i) =
-    walk (λ _. f-fails is-3)
-    (λ _. walk (λ _. f-fails is-3) (λ _. walk (λ _. f-fails is-2) (λ _. walk (λ _. f-fails is-5) (λ _. f-sends))))
-plain-fine p v f (hartStatus k) = walk (λ _. f-fails is-3) (λ _. f-gives f)
+    walk (λ _. f-fails first-in)
+    (λ _. walk (λ _. f-fails first-in)
+    (λ _. walk (λ _. f-fails second-in) (λ _. walk (λ _. f-fails third-in) (λ _. f-sends))))
+plain-fine p v f (hartStatus k) = walk (λ _. f-fails first-in) (λ _. f-gives f)
 plain-fine p v f counterCount = f-gives f
-plain-fine p v f (counterDetails i) = walk (λ _. f-fails is-3) (λ _. f-gives f)
+plain-fine p v f (counterDetails i) = walk (λ _. f-fails first-in) (λ _. f-gives f)
 plain-fine p v f (counterConfigure base m flags e d) =
-    walk (λ _. f-fails is-3)
-    (λ _. walk (λ _. f-fails is-3) (λ _. walk (λ _. f-fails is-2) (λ is. walk (λ _. f-fails is-3) (λ _.
+    walk (λ _. f-fails first-in)
+    (λ _. walk (λ _. f-fails first-in) (λ _. walk (λ _. f-fails second-in) (λ is. walk (λ _. f-fails first-in) (λ _.
     chosen-fine flags (e - firstEvent) (v .own) (event-code e (not-false _ is)) f
     (chosen flags (v .own) (counterSet p base m))))))
 plain-fine p v f (counterStart base m flags x) =
-    walk (λ _. f-fails is-3)
-    (λ _. walk (λ _. f-fails is-3)
-    (λ _. walk (λ _. f-fails is-3) (λ mapped. walk (λ _. f-fails is-9) (λ _. walk (λ _. f-fails is-7) (λ _.
+    walk (λ _. f-fails first-in)
+    (λ _. walk (λ _. f-fails first-in)
+    (λ _. walk (λ _. f-fails first-in) (λ mapped. walk (λ _. f-fails second-in) (λ _. walk (λ _. f-fails third-in) (λ _.
     f-gives (begun-fine flags x (counterSet p base m) (v .own) (not-false _ mapped) f))))))
 plain-fine p v f (counterStop base m flags) =
-    walk (λ _. f-fails is-3)
-    (λ _. walk (λ _. f-fails is-3) (λ _. walk (λ _. f-fails is-9) (λ _. walk (λ _. f-fails is-8) (λ _.
+    walk (λ _. f-fails first-in)
+    (λ _. walk (λ _. f-fails first-in) (λ _. walk (λ _. f-fails second-in) (λ _. walk (λ _. f-fails third-in) (λ _.
     f-gives (each-fine (ended flags) (ended-fine flags) (counterSet p base m) (v .own) f)))))
-plain-fine p v f (counterRead i) = walk (λ _. f-fails is-3) (λ _. f-gives f)
-plain-fine p v f (counterReadHigh i) = walk (λ _. f-fails is-3) (λ _. f-gives f)
-plain-fine p v f unknown = f-fails is-2
+plain-fine p v f (counterRead i) = walk (λ _. f-fails first-in) (λ _. f-gives f)
+plain-fine p v f (counterReadHigh i) = walk (λ _. f-fails first-in) (λ _. f-gives f)
+plain-fine p v f unknown = f-fails first-in
 
 -- ----- events
 
@@ -173,45 +177,51 @@ event-fine e cs f =
 
 -- ----- every reply is a listed refusal, a listed error, or leaves the caller's counters fine
 
-pub data ReplyFine : Reply → Type 0 where
-  r-refused : {k : ℕ} → ListedRefusal k → ReplyFine (refused k)
-  r-failed : {e : ℤ} → ListedError e → ReplyFine (failed e)
-  r-did : {d : Done} → Fine (d .own) → ReplyFine (did d)
+pub data ReplyFine (ks : List ℕ) (es : List ℤ) : Reply → Type 0 where
+  r-refused : {k : ℕ} → List·Memᴰ k ks → ReplyFine ks es (refused k)
+  r-failed : {e : ℤ} → List·Memᴰ e es → ReplyFine ks es (failed e)
+  r-did : {d : Done} → Fine (d .own) → ReplyFine ks es (did d)
 
-stroll : {b : Bool} {x y : Reply} → (b ≡ true → ReplyFine x) → (b ≡ false → ReplyFine y)
-    → ReplyFine (if b then x else y)
-stroll {b} f g = if-both ReplyFine b f g
+stroll : {ks : List ℕ} {es : List ℤ} {b : Bool} {x y : Reply} → (b ≡ true → ReplyFine ks es x)
+    → (b ≡ false → ReplyFine ks es y)
+    → ReplyFine ks es (if b then x else y)
+stroll {ks} {es} {b} f g = if-both (ReplyFine ks es) b f g
 
-plain-reply-fine : (v : View) → Fine (v .own) → {q : Plain} → PlainFine q → ReplyFine (plain v q)
+plain-reply-fine : {ks : List ℕ} {es : List ℤ} (v : View) → Fine (v .own) → {q : Plain} → PlainFine es q
+    → ReplyFine ks es (plain v q)
 unfolding plain
 plain-reply-fine v f (f-fails l) = r-failed l
 plain-reply-fine v f (f-gives g) = r-did g
 plain-reply-fine v f f-sends = r-did f
 
-moves-fine : (v : View) (k : Bool) (acts : List Action) (hs : List Hart) → Fine (v .own) → ReplyFine (moves v k acts hs)
+moves-fine : {ks : List ℕ} {es : List ℤ} (v : View) (k : Bool) (acts : List Action) (hs : List Hart) → Fine (v .own)
+    → ReplyFine ks es (moves v k acts hs)
 unfolding moves
 moves-fine v k acts hs f = r-did f
 
-request-fine : (p : Platform) (v : View) (h : ℕ) → Fine (v .own) → (q : Request) → ReplyFine (requestReply p v h q)
+request-fine : {ks : List ℕ} (p : Platform) (v : View) (h : ℕ) → Fine (v .own) → (q : Request)
+    → ReplyFine ks (requestErrors q) (requestReply p v h q)
 unfolding requestReply lifeReply startReply stopReply suspendReply
 request-fine p v h f (life (hartStart k a o)) =
-    stroll (λ _. r-failed is-3)
-    (λ _. stroll (λ _. r-failed is-6) (λ _. stroll (λ _. r-failed is-5) (λ _. moves-fine v _ _ _ f)))
+    stroll (λ _. r-failed first-in)
+    (λ _. stroll (λ _. r-failed second-in) (λ _. stroll (λ _. r-failed third-in) (λ _. moves-fine v _ _ _ f)))
 request-fine p v h f (life hartStop) = moves-fine v _ _ _ f
 request-fine p v h f (life (hartSuspend y a o)) =
     stroll (λ _. moves-fine v _ _ _ f)
-    (λ _. stroll (λ _. r-failed is-3) (λ _. stroll (λ _. r-failed is-5) (λ _. moves-fine v _ _ _ f)))
+    (λ _. stroll (λ _. r-failed first-in) (λ _. stroll (λ _. r-failed second-in) (λ _. moves-fine v _ _ _ f)))
 request-fine p v h f (other q) = plain-reply-fine v f (plain-fine p v f q)
 
-goesOn-fine : (v : View) (h : ℕ) (acts : List Action) (n : Next) → Fine (v .own) → ReplyFine (goesOn v h acts n)
+goesOn-fine : {es : List ℤ} (v : View) (h : ℕ) (acts : List Action) (n : Next) → Fine (v .own)
+    → ReplyFine (notWellFormed ∷ shortMemory ∷ notEnabled ∷ stateForbids ∷ []) es (goesOn v h acts n)
 unfolding goesOn
 goesOn-fine v h acts (To x) f = moves-fine v _ _ _ f
-goesOn-fine v h acts Forbidden f = r-refused is-H5
+goesOn-fine v h acts Forbidden f = r-refused fourth-in
 
-pub enabled-fine : (p : Platform) (v : View) (op : Operation) → Fine (v .own) → ReplyFine (enabledReply p v op)
+pub enabled-fine : (p : Platform) (v : View) (op : Operation) → Fine (v .own)
+    → ReplyFine (refusalsOf op) (errorsOf op) (enabledReply p v op)
 unfolding enabledReply doneReply wakeReply eventReply
-enabled-fine p v (call room h r) f = stroll (λ _. r-refused is-H3) (λ _. request-fine p v h f _)
+enabled-fine p v (call room h r) f = stroll (λ _. r-refused fourth-in) (λ _. request-fine p v h f _)
 enabled-fine p v (completion room h) f = goesOn-fine v h _ _ f
 enabled-fine p v (waking room h) f = goesOn-fine v h _ _ f
-enabled-fine p v (event h e) f = stroll (λ _. r-refused is-H6)
+enabled-fine p v (event h e) f = stroll (λ _. r-refused third-in)
     (λ _. plain-reply-fine v f (f-gives (event-fine e (v .own) f)))

@@ -1,18 +1,22 @@
 -- Refusals alter nothing and are listed; two states that differ in other harts' counters alone get the same.
+use mathlib.Core.List.{List·Memᴰ, List, []}
+use mathlib.Core.Bool.{true, false}
 use mathlib.Core.Path.{_≡_, refl, ap, sym, _∙_}
-use mathlib.Core.Bool.{false}
-use mathlib.Core.List.{List, []}
 use Prim.Native.Nat.{ℕ}
 use borrow.Author.Tests.{not-false}
+use Rattle.rules.specs.Refusals.{errorsOf, refusalsOf, RefusalsAlterNothing, Listed, listed-refusal}
+use Rattle.rules.specs.Refusals.{listed-error, no-refusal, RefusalsListed}
+use Rattle.rules.specs.Machine.{call, completion, event, isShort, waking, Operation, hartOf, checkedReply}
+use Rattle.rules.specs.Machine.{reply, after}
+use Rattle.rules.specs.Names.{notEnabled, notWellFormed, shortMemory}
 use Rattle.rules.specs.Choice.{if_then_else_}
 use Rattle.rules.specs.Platform.{platformAccepted}
 use Rattle.rules.specs.Tables.{Tables, wellFormed, tablesWellFormed}
 use Rattle.rules.specs.Replies.{view, Reply, refused, failed, did, accepted, answerOf, actionsOf, wordsOf, laid}
 use Rattle.rules.specs.Replies.{memoryAfter, commit}
-use Rattle.rules.specs.Machine.{Operation, hartOf, checkedReply, reply, after}
-use Rattle.rules.specs.Promises.{RefusalsAlterNothing, Listed, listed-refusal, listed-error, no-refusal}
-use Rattle.rules.specs.Promises.{RefusalsListed, is-H1, is-H2, is-H4, Alike, CountersApart}
+use Rattle.rules.specs.Promises.{Alike, CountersApart}
 use Rattle.rules.specs.declared.platform.Platform.{Platform}
+use Rattle.rules.proofs.Lists.{first-in, second-in, third-in}
 use Rattle.rules.proofs.Logic.{if-false, if-both, and-r, not-of, false-true}
 use Rattle.rules.proofs.WellFormed.{enabled-under, tables-agree}
 use Rattle.rules.proofs.Own.{ReplyFine, r-refused, r-failed, r-did, enabled-fine}
@@ -37,21 +41,40 @@ refusals-alter-nothing p t op e =
 
 -- ----- refusals are listed
 
-fine-listed : {r : Reply} → ReplyFine r → Listed r
+fine-listed : {op : Operation} {r : Reply} → ReplyFine (refusalsOf op) (errorsOf op) r → Listed op r
 fine-listed (r-refused l) = listed-refusal l
 fine-listed (r-failed l) = listed-error l
 fine-listed (r-did f) = no-refusal
 
+-- H1 and H2 are listed for every operation, H4 for every one that may be short
+h1-listed : (op : Operation) → List·Memᴰ notWellFormed (refusalsOf op)
+h1-listed (call room h q) = first-in
+h1-listed (completion room h) = first-in
+h1-listed (waking room h) = first-in
+h1-listed (event h e) = first-in
+
+h4-listed : (op : Operation) → isShort op ≡ true → List·Memᴰ shortMemory (refusalsOf op)
+h4-listed (call room h q) e = second-in
+h4-listed (completion room h) e = second-in
+h4-listed (waking room h) e = second-in
+h4-listed (event h c) e = absurd (false-true e)
+
+h2-listed : (op : Operation) → List·Memᴰ notEnabled (refusalsOf op)
+h2-listed (call room h q) = third-in
+h2-listed (completion room h) = third-in
+h2-listed (waking room h) = third-in
+h2-listed (event h e) = second-in
+
 pub refusals-listed : RefusalsListed
 unfolding reply checkedReply wellFormed view
 refusals-listed p t op =
-    if-both Listed _ (λ _. listed-refusal is-H1)
-    (λ w. if-both Listed _ (λ _. listed-refusal is-H4)
-    (λ _. if-both Listed _ (λ _. listed-refusal is-H2)
+    if-both (Listed op) _ (λ _. listed-refusal (h1-listed op))
+    (λ w. if-both (Listed op) _ (λ short. listed-refusal (h4-listed op short))
+    (λ _. if-both (Listed op) _ (λ _. listed-refusal (h2-listed op))
     (λ on.
     let fine = tables-agree p t .0 (and-r (platformAccepted p) (tablesWellFormed p t) (not-false _ w)) in
     let own = fine .own (hartOf op) (enabled-under p (hartOf op) (not-false _ on)) in
-    fine-listed (enabled-fine p (view t (hartOf op)) op (own .eight, own .fine)))))
+    fine-listed {op = op} (enabled-fine p (view t (hartOf op)) op (own .eight, own .fine)))))
 
 -- ----- isolation
 

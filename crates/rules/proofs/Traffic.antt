@@ -10,15 +10,14 @@ use lib.Seq.{set-getD, getD-set-same, getD-set-other}
 use lib.ListN.{getD, set, length}
 use Rattle.rules.specs.Replies.{failed, refused, moves, View, view, Done, Reply, did, plain, counted, tell}
 use Rattle.rules.specs.Replies.{commit}
-use Rattle.rules.specs.Promises.{EventCounted, CountersOutliveStates, EventsCounted, TrafficCounted}
-use Rattle.rules.specs.Promises.{TrafficCountedExactly}
+use Rattle.rules.specs.Counting.{EventCounted, CountersOutliveStates, EventsCounted, TrafficCounted}
+use Rattle.rules.specs.Counting.{TrafficCountedExactly}
 use Rattle.rules.specs.Choice.{if_then_else_}
 use Rattle.rules.specs.Harts.{startReply, stopReply, suspendReply, goesOn, doneReply, wakeReply}
 use Rattle.rules.specs.Requests.{LifeRequest, hartStart, hartStop, hartSuspend, Request, life, other, request}
 use Rattle.rules.specs.Machine.{lifeReply, requestReply, call, completion, waking, checkedReply, enabledReply}
 use Rattle.rules.specs.Machine.{Operation, event, hartOf, reply, after}
 use Rattle.rules.specs.Rows.{InRow, requestEvent, eventOf}
-use Rattle.rules.specs.Names.{harts}
 use Rattle.rules.specs.Tables.{Tables, ownAt, counterAt}
 use Rattle.rules.specs.Counters.{eventReply}
 use Rattle.rules.specs.Events.{times, others, occurs}

@@ -13,5 +13,6 @@ specVersion = 50331648
 unfoldable pub isExtension : ℕ → Bool
 isExtension e = eqb e BASE || (eqb e IPI || (eqb e RFENCE || (eqb e HSM || eqb e PMU)))
 
+-- what a probe of the extension e gives
 unfoldable pub probed : ℕ → ℕ
 probed e = if isExtension e then 1 else 0

@@ -11,7 +11,7 @@ use Rattle.rules.specs.Choice.{if_then_else_}
 use Rattle.rules.specs.Sets.{bit, numbers, keep, all, first}
 use Rattle.rules.specs.Names.{counters, firstEvent, lastEvent, lastReported, notReportable}
 use Rattle.rules.specs.Names.{notSupported, invalidParam, alreadyStarted, alreadyStopped}
-use Rattle.rules.specs.Names.{noSharedMemory}
+use Rattle.rules.specs.Names.{noSharedMemory, firmwareCounter}
 use Rattle.rules.specs.Platform.{width}
 use Rattle.rules.specs.Tables.{counterAt}
 use Rattle.rules.specs.Replies.{View, Reply, refused, Plain, fails, gives, plain, counted}
@@ -23,26 +23,31 @@ use Rattle.rules.specs.declared.records.Counter.{Counter}
 unfoldable pub counterSet : Platform → (base mask : ℕ) → List ℕ
 counterSet p base m = numbers (width p) base m
 
+-- "numbers over 7 are -3"
 unfoldable pub isCounter : ℕ → Bool
 isCounter i = ltb i counters
 
+-- f at the counters with these numbers
 unfoldable pub each : (Counter → Counter) → List ℕ → List Counter → List Counter
 each f [] cs = cs
 each f (i ∷ is) cs = each f is (set cs i (f (counterAt cs i)))
 
+-- counter i of eight is mapped
 unfoldable pub isMapped : List Counter → ℕ → Bool
 isMapped cs i = (counterAt cs i) .mapped
 
+-- counter i of eight is running
 unfoldable pub isRunning : List Counter → ℕ → Bool
 isRunning cs i = (counterAt cs i) .running
 
+-- counter i of eight is not running
 unfoldable pub notRunning : List Counter → ℕ → Bool
 notRunning cs i = not (isRunning cs i)
 
 -- ----- "Details: 2^63 for counters 0 to 7, else -3."
 
 unfoldable pub detailsReply : List Counter → (i : ℕ) → Plain
-detailsReply cs i = if not (isCounter i) then fails invalidParam else gives (2 ^ 63) cs
+detailsReply cs i = if not (isCounter i) then fails invalidParam else gives firmwareCounter cs
 
 -- ----- configure
 
@@ -121,14 +126,17 @@ counterStopReply p cs base m flags =
 -- ----- "Read (FID 5): over 7 or unmapped is -3 (house), never a zero. High read (FID 6): the same
 -- refusals, else 0."
 
+-- counter i can be read: it is one of the eight, and mapped
 unfoldable pub canRead : List Counter → ℕ → Bool
 canRead cs i = isCounter i && isMapped cs i
 
+-- the reply to a read: the value
 unfoldable pub readReply : List Counter → (i : ℕ) → Plain
 readReply cs i =
     if not (canRead cs i) then fails invalidParam
     else gives ((counterAt cs i) .value) cs
 
+-- the reply to a high read: 0
 unfoldable pub readHighReply : List Counter → (i : ℕ) → Plain
 readHighReply cs i = if not (canRead cs i) then fails invalidParam else gives 0 cs
 

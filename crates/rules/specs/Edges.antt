@@ -7,7 +7,7 @@ use lib.ListN.{replicate}
 use Rattle.rules.specs.Choice.{if_then_else_}
 use Rattle.rules.specs.Sets.{bit, every, those, numbers, first, keep, all, any}
 use Rattle.rules.specs.Names.{IPI, RFENCE, HSM, PMU, success, notSupported, invalidParam}
-use Rattle.rules.specs.Names.{invalidAddress, alreadyAvailable}
+use Rattle.rules.specs.Names.{invalidAddress, alreadyAvailable, actionMemory}
 use Rattle.rules.specs.Platform.{has, enabled, hypervisor, usedRanges, liesIn, validAddress}
 use Rattle.rules.specs.Platform.{rangeAccepted, platformAccepted}
 use Rattle.rules.specs.Tables.{hartAt, ownAt, counterAt, fresh, isIdle, isBlank}
@@ -36,6 +36,7 @@ use Rattle.rules.specs.declared.actions.Action.{Action}
 -- ----- a platform for each set of enabled harts, with boot hart 0 and the transcript program's
 -- range and widths
 
+-- the platform on which these harts are enabled
 abbrev pub platformOf : HartSet → Platform
 platformOf s = record {
   enabled = s;
@@ -53,27 +54,32 @@ platformOf s = record {
   machine = 0;
 }
 
--- harts 0 to 3; harts 0, 1 and 4; harts 0 and 127
+-- harts 0 to 3
 abbrev pub four : HartSet
 four = record { low = 0b1111; high = 0 }
 
+-- harts 0, 1 and 4
 abbrev pub zeroOneFour : HartSet
 zeroOneFour = record { low = 0b10011; high = 0 }
 
+-- harts 0 and 127
 abbrev pub zeroLast : HartSet
 zeroLast = record { low = 1; high = 2 ^ 63 }
 
 -- ----- what an operation shows: the error, the value, and the targets of the actions
 
+-- Hk, or a pair with the targets of its actions
 pub data Shown : Type 0 where
   H : (k : ℕ) → Shown
   shows : (error : ℤ) → (value : ℕ) → (targets : List ℕ) → Shown
 
+-- what a reply shows
 unfoldable pub shownBy : Reply → Shown
 shownBy (refused k) = H k
 shownBy (failed e) = shows e 0 []
 shownBy (did d) = shows success (d .value) (map (λ (a : Action). a .target) (d .actions))
 
+-- an edge: the enabled harts, what came before, the operation, and what it has to show
 pub record Edge : Type 0 where
   pub harts : HartSet
   -- from fresh tables, before
@@ -83,7 +89,7 @@ pub record Edge : Type 0 where
 
 -- calls of hart 0
 abbrev calls : (eid fid a0 a1 a2 a3 a4 : ℕ) → Operation
-calls e f a b c d x = call 640 0
+calls e f a b c d x = call actionMemory 0
     (record { a0 = a; a1 = b; a2 = c; a3 = d; a4 = x; a5 = 0; a6 = f; a7 = e })
 
 abbrev interrupts : (mask base : ℕ) → Operation
@@ -96,13 +102,14 @@ edge hs before op s = record { harts = hs; history = before; last = op; want = s
 abbrev allUp : List Operation
 allUp =
     calls HSM 0 1 0x80000000 0 0 0
-    ∷ completion 640 1
+    ∷ completion actionMemory 1
     ∷ calls HSM 0 2 0x80000000 0 0 0
-    ∷ completion 640 2
+    ∷ completion actionMemory 2
     ∷ calls HSM 0 3 0x80000000 0 0 0
-    ∷ completion 640 3
+    ∷ completion actionMemory 3
     ∷ []
 
+-- P1 to P12
 unfoldable pub edges : List Edge
 edges =
     -- P1 mask 5, base 2: harts 2 and 4, -3. P2 mask 0, base 500: accepted, nobody.
@@ -126,7 +133,7 @@ edges =
     ∷ edge four [] (calls RFENCE 1 1 0 (2 ^ 64 - 4096) 4096 0) (shows success 0 (0 ∷ []))
     ∷ edge four [] (calls RFENCE 1 1 0 (2 ^ 64 - 4096) 4097 0) (shows invalidAddress 0 [])
     -- P10 event 983046 (code 6) maps; 983062 (code 22) is -2.
-    ∷ edge four [] (calls PMU 2 0 1 0 983046 0) (shows success 0 [])
+    ∷ edge four (calls PMU 2 0 1 0 983046 0 ∷ []) (calls PMU 5 0 0 0 0 0) (shows success 0 [])
     ∷ edge four [] (calls PMU 2 0 1 0 983062 0) (shows notSupported 0 [])
     -- P11 counter at 2^64 - 1, three events: 2.
     ∷ edge four
@@ -135,7 +142,8 @@ edges =
     (calls PMU 5 0 0 0 0 0) (shows success 2 [])
     -- P12 hart 0 interrupts 0 and 1, both STARTED: one sent event.
     ∷ edge four
-    (calls HSM 0 1 0x80000000 0 0 0 ∷ completion 640 1 ∷ calls PMU 2 0 1 4 983046 0 ∷ interrupts 3 0
+    (calls HSM 0 1 0x80000000 0 0 0 ∷ completion actionMemory 1 ∷ calls PMU 2 0 1 4 983046 0
+    ∷ interrupts 3 0
     ∷ [])
     (calls PMU 5 0 0 0 0 0) (shows success 1 [])
     ∷ []

@@ -1,5 +1,5 @@
--- Firmware events by the standard's names, and how often an event is counted. For the promises on
--- counters alone.
+-- Firmware events and what fences hand on, by the standard's names, and how often an event is
+-- counted. Only the promises cite this file.
 use mathlib.Core.List.{List, [], _∷_}
 use Prim.Native.Nat.{ℕ, zero, suc}
 use lib.Dec.{eqb}
@@ -22,6 +22,7 @@ sentEvent HFENCE-VVMA-ASID = 20
 pub data Operands : Type 0 where
   nothing range rangeAndId : Operands
 
+-- which of these each fence has
 abbrev pub operandsOf : Fence → Operands
 operandsOf FENCE-I = nothing
 operandsOf SFENCE-VMA = range
@@ -37,11 +38,13 @@ startIn nothing q = 0
 startIn range q = q .a2
 startIn rangeAndId q = q .a2
 
+-- the size, where there is one
 abbrev pub sizeIn : Operands → Registers → ℕ
 sizeIn nothing q = 0
 sizeIn range q = q .a3
 sizeIn rangeAndId q = q .a3
 
+-- the ASID or VMID, where there is one
 abbrev pub idIn : Operands → Registers → ℕ
 idIn nothing q = 0
 idIn range q = 0
@@ -52,11 +55,12 @@ unfoldable pub times : {A : Type 0} → ℕ → (A → A) → A → A
 times zero f c = c
 times (suc n) f c = times n f (f c)
 
--- how many of some harts are not h, and how many are k
+-- how many of some harts are not h
 unfoldable pub others : ℕ → List ℕ → ℕ
 others h [] = 0
 others h (k ∷ ks) = if eqb k h then others h ks else suc (others h ks)
 
+-- how many of some harts are k
 unfoldable pub occurs : ℕ → List ℕ → ℕ
 occurs k [] = 0
 occurs k (j ∷ ks) = if eqb j k then suc (occurs k ks) else occurs k ks

@@ -19,6 +19,7 @@ pub data Fence : Type 0 where
   FENCE-I SFENCE-VMA SFENCE-VMA-ASID : Fence
   HFENCE-GVMA-VMID HFENCE-GVMA HFENCE-VVMA-ASID HFENCE-VVMA : Fence
 
+-- "Fences FID 0 to 6": the function of each
 abbrev pub functionOf : Fence → ℕ
 functionOf FENCE-I = 0
 functionOf SFENCE-VMA = 1
@@ -32,6 +33,7 @@ functionOf HFENCE-VVMA = 6
 abbrev pub sentCodes : List ℕ
 sentCodes = 8 ∷ 10 ∷ 12 ∷ 16 ∷ 14 ∷ 20 ∷ 18 ∷ []
 
+-- the code of a fence by its function
 unfoldable pub sentCode : (fid : ℕ) → ℕ
 sentCode f = getD sentCodes f 0
 
@@ -52,6 +54,7 @@ hypervisorsFit p f hs = if leb 3 f then all (hypervisor p) hs else true
 unfoldable pub rangeValid : (w start size : ℕ) → Bool
 rangeValid w s n = (eqb s 0 && eqb n 0) || (eqb n (ones w) || leb (s + n) (2 ^ w))
 
+-- an interrupt: "any selected number not enabled gives -3"; "2 interrupt (three zeros)"
 unfoldable pub interruptReply : Platform → View → (mask base : ℕ) → Plain
 interruptReply p v m base =
     if not (selectionFits p m base) then fails invalidParam
@@ -59,7 +62,7 @@ interruptReply p v m base =
 
 -- "Order: harts (-3), ASID or VMID below 2^width (-3), hypervisor extension on every selected hart
 -- for FID 3 to 6 (-2), range (-5)." Words that a fence has not are 0; "otherwise the arguments
--- unaltered".
+-- unaltered". "The caller's VMID for FID 5 and 6 is the host's to add (house)."
 unfoldable pub fenceReply : Platform → View → (fid mask base start size id : ℕ) → Plain
 fenceReply p v f m base s n i =
     if not (selectionFits p m base) then fails invalidParam

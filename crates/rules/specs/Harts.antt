@@ -74,6 +74,7 @@ suspendReply p v h y a o =
 
 -- ----- completions and wakes of hart h: H5 where its state does not allow one
 
+-- to its next record with these actions, or H5
 unfoldable pub goesOn : View → (h : ℕ) → List Action → Next → Reply
 goesOn v h acts (To x) = moves v false acts (set (v .harts) h x)
 goesOn v h acts Forbidden = refused stateForbids
@@ -83,8 +84,10 @@ goesOn v h acts Forbidden = refused stateForbids
 unfoldable pub wakeActions : (h : ℕ) → Hart → List Action
 wakeActions h x = if x .retentive then [] else enter h (x .address) (x .opaque) ∷ []
 
+-- the reply to a completion
 unfoldable pub doneReply : View → (h : ℕ) → Reply
 doneReply v h = goesOn v h [] (doneOf (hartAt (v .harts) h))
 
+-- the reply to a wake
 unfoldable pub wakeReply : View → (h : ℕ) → Reply
 wakeReply v h = goesOn v h (wakeActions h (hartAt (v .harts) h)) (wakeOf (hartAt (v .harts) h))

@@ -1,4 +1,4 @@
--- Document 01 as definitions, a file for each of its chapters, in its order, and the promises.
+-- Document 01 as definitions; each file cites only those above it; the promises last.
 pub mod Choice
 pub mod Sets
 pub mod Names
@@ -17,3 +17,6 @@ pub mod Rows
 pub mod Edges
 pub mod Events
 pub mod Promises
+pub mod Refusals
+pub mod Deliveries
+pub mod Counting

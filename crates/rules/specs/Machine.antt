@@ -3,15 +3,16 @@
 --                     action memory were lent with it
 --   reply p t op      the answer's content, host refusals first
 --   after, afterAll   the tables after an operation, and after a history of them
+--   freshOver, freshAnswer   lent tables made fresh, and the answer to that
 use mathlib.Core.Bool.{Bool, false, not}
 use mathlib.Core.List.{List, [], _∷_}
 use Prim.Native.Nat.{ℕ}
 use lib.Dec.{ltb, eqb}
+use Rattle.rules.specs.Platform.{platformAccepted, enabled}
+use Rattle.rules.specs.Tables.{fresh, Tables, stateOf, wellFormed}
+use Rattle.rules.specs.Names.{success, actionMemory, counters, STARTED, notSupported}
+use Rattle.rules.specs.Names.{notWellFormed, notEnabled, notStarted, shortMemory}
 use Rattle.rules.specs.Choice.{if_then_else_}
-use Rattle.rules.specs.Names.{actionMemory, counters, STARTED, notSupported, notWellFormed}
-use Rattle.rules.specs.Names.{notEnabled, notStarted, shortMemory}
-use Rattle.rules.specs.Platform.{enabled}
-use Rattle.rules.specs.Tables.{Tables, stateOf, wellFormed}
 use Rattle.rules.specs.Replies.{View, view, Reply, refused, Plain, fails, gives, plain}
 use Rattle.rules.specs.Replies.{commit}
 use Rattle.rules.specs.Base.{specVersion, probed}
@@ -27,16 +28,20 @@ use Rattle.rules.specs.Requests.{baseArchitecture, baseMachine, baseProb
 use Rattle.rules.specs.Requests.{hartStatus, counterCount, counterDetails, counterConfigure}
 use Rattle.rules.specs.Requests.{counterStart, counterStop, counterRead, counterReadHigh}
 use Rattle.rules.specs.Requests.{unknown}
+use Rattle.rules.specs.declared.answers.Answer.{Answer}
+use Rattle.rules.specs.declared.answers.Answer.the-variants.{Pair, Refused}
 use Rattle.rules.specs.declared.platform.Platform.{Platform}
 use Rattle.rules.specs.declared.answers.Registers.{Registers}
 
 -- ----- the reply to a call of the running hart h
 
+-- to a call that stands in a row
 unfoldable pub lifeReply : Platform → View → (h : ℕ) → LifeRequest → Reply
 lifeReply p v h (hartStart k a o) = startReply p v k a o
 lifeReply p v h hartStop = stopReply v h
 lifeReply p v h (hartSuspend y a o) = suspendReply p v h y a o
 
+-- to every other call
 unfoldable pub plainReply : Platform → View → PlainRequest → Plain
 plainReply p v baseVersion = gives specVersion (v .own)
 plainReply p v baseImplementation = gives (p .implementation) (v .own)
@@ -57,12 +62,14 @@ plainReply p v (counterRead i) = readReply (v .own) i
 plainReply p v (counterReadHigh i) = readHighReply (v .own) i
 plainReply p v unknown = fails notSupported
 
+-- to any call
 unfoldable pub requestReply : Platform → View → (h : ℕ) → Request → Reply
 requestReply p v h (life q) = lifeReply p v h q
 requestReply p v h (other q) = plain v (plainReply p v q)
 
 -- ----- operations
 
+-- what the host asks for, of hart h
 pub data Operation : Type 0 where
   call : (room h : ℕ) → Registers → Operation
   completion : (room h : ℕ) → Operation
@@ -105,9 +112,23 @@ reply p t op = if not (wellFormed p t) then refused notWellFormed else checkedRe
 
 -- ----- the tables after
 
+-- after one operation
 unfoldable pub after : Platform → Tables → Operation → Tables
 after p t op = commit t (hartOf op) (reply p t op)
 
+-- after a history of them
 abbrev pub afterAll : Platform → Tables → List Operation → Tables
 afterAll p t [] = t
 afterAll p t (op ∷ ops) = afterAll p (after p t op) ops
+
+-- ----- fresh tables: H1 for a platform that is not accepted, and the lent tables stay as they were
+
+-- the lent tables after they were made fresh
+unfoldable pub freshOver : Platform → Tables → Tables
+freshOver p t = if not (platformAccepted p) then t else fresh p
+
+-- the answer to that
+unfoldable pub freshAnswer : Platform → Answer
+freshAnswer p =
+    if not (platformAccepted p) then Refused notWellFormed
+    else Pair success 0 false 0

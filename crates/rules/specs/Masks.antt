@@ -28,18 +28,21 @@ selectionFits p m base = all (enabled p) (selected p m base)
 unfoldable pub isReached : List Hart → ℕ → Bool
 isReached hs h = not (eqb (stateOf hs h) STOPPED || eqb (stateOf hs h) STOP-PENDING)
 
+-- the harts that a mask reaches
 unfoldable pub reached : Platform → List Hart → (mask base : ℕ) → List ℕ
 reached p hs m base = keep (isReached hs) (selected p m base)
 
--- "One a reached hart, ascending."
+-- an action for one hart
 abbrev pub actionFor : (kind start size id target : ℕ) → Action
 actionFor k s n i h = record { target = h; kind = k; start = s; size = n; id = i }
 
--- one action for each of these harts, and one event of this code sent to each of them
+-- "One a reached hart, ascending.": an action for each of these harts, and one event of this code
+-- sent to each of them
 unfoldable pub sendTo : (kind start size id code : ℕ) → List ℕ → Plain
 sendTo k s n i c hs = sends (map (actionFor k s n i) hs) c hs
 
--- ----- the same, asked of one bit or of one hart alone; of a hart it is right where the mask fits
+-- ----- the same, asked of one bit or one hart; where the mask fits, those harts (selects p m base)
+-- is selected
 
 -- bit i, if it is set, selects an enabled hart
 unfoldable pub bitFits : Platform → (mask base i : ℕ) → Bool

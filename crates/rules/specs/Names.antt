@@ -1,6 +1,6 @@
 -- Every number of document 01 under its name there. The code's constants are those of
 -- src/numbers.rt.
-use Prim.Native.Nat.{ℕ}
+use Prim.Native.Nat.{ℕ, _^_}
 use lib.IntN.{ℤ, pos, negsuc}
 
 -- ----- what there is: "Hart numbers 0 to 127. Eight counters a hart."
@@ -10,6 +10,20 @@ harts = 128
 
 abbrev pub counters : ℕ
 counters = 8
+
+-- "0 to 8 memory ranges, ASID width 0 to 16 bits, VMID width 0 to 14 bits"
+abbrev pub maxRanges : ℕ
+maxRanges = 8
+
+abbrev pub maxAsidWidth : ℕ
+maxAsidWidth = 16
+
+abbrev pub maxVmidWidth : ℕ
+maxVmidWidth = 14
+
+-- "Details: 2^63": a firmware counter
+abbrev pub firmwareCounter : ℕ
+firmwareCounter = 2 ^ 63
 
 -- "action memory under 640 words": five words for each of 128 harts
 abbrev pub actionMemory : ℕ

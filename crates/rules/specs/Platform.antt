@@ -13,7 +13,7 @@ use lib.Dec.{ltb, leb, eqb}
 use lib.ListN.{take}
 use Rattle.rules.specs.Choice.{if_then_else_}
 use Rattle.rules.specs.Sets.{bit, every, all, any}
-use Rattle.rules.specs.Names.{harts}
+use Rattle.rules.specs.Names.{harts, maxRanges, maxAsidWidth, maxVmidWidth}
 use Rattle.rules.specs.declared.platform.HartSet.{HartSet}
 use Rattle.rules.specs.declared.platform.Range.{Range}
 use Rattle.rules.specs.declared.platform.Platform.{Platform}
@@ -22,9 +22,11 @@ use Rattle.rules.specs.declared.platform.Platform.{Platform}
 unfoldable pub has : HartSet → ℕ → Bool
 has s h = if ltb h 64 then bit (s .low) h else if ltb h harts then bit (s .high) (h - 64) else false
 
+-- hart h is enabled
 unfoldable pub enabled : Platform → ℕ → Bool
 enabled p h = has (p .enabled) h
 
+-- hart h has the hypervisor extension
 unfoldable pub hypervisor : Platform → ℕ → Bool
 hypervisor p h = has (p .hypervisor) h
 
@@ -40,6 +42,7 @@ usedRanges p = take (p .used) (p .ranges)
 unfoldable pub liesIn : ℕ → Range → Bool
 liesIn a r = leb (r .base) a && ltb a (r .base + r .length)
 
+-- a hart may be sent to the address a
 unfoldable pub validAddress : Platform → ℕ → Bool
 validAddress p a = eqb (a % 2) 0 && any (liesIn a) (usedRanges p)
 
@@ -49,13 +52,14 @@ validAddress p a = eqb (a % 2) 0 && any (liesIn a) (usedRanges p)
 unfoldable pub rangeAccepted : ℕ → Range → Bool
 rangeAccepted w r = ltb 0 (r .length) && leb (r .base + r .length) (2 ^ w)
 
+-- none of the grounds holds
 unfoldable pub platformAccepted : Platform → Bool
 platformAccepted p =
     enabled p (p .boot)
     && (every harts (λ h. not (hypervisor p h) || enabled p h)
-    && (leb (p .used) 8
-    && (leb (p .asid) 16
-    && (leb (p .vmid) 14
+    && (leb (p .used) maxRanges
+    && (leb (p .asid) maxAsidWidth
+    && (leb (p .vmid) maxVmidWidth
     && all (rangeAccepted (width p)) (usedRanges p)))))
 
 -- the same as a statement
@@ -65,9 +69,9 @@ pub record PlatformAccepted (p : Platform) : Type 0 where
   -- a hart with the hypervisor extension is enabled
   pub hypervisors : (h : ℕ) → hypervisor p h ≡ true → enabled p h ≡ true
   -- no count and no width is over its limit
-  pub ranges : p .used ≤ 8
-  pub asid : p .asid ≤ 16
-  pub vmid : p .vmid ≤ 14
+  pub ranges : p .used ≤ maxRanges
+  pub asid : p .asid ≤ maxAsidWidth
+  pub vmid : p .vmid ≤ maxVmidWidth
   -- a used range is not empty and ends at 2^64 at most
   pub used : (r : Range) → List·Memᴰ r (usedRanges p)
       → (0 < r .length) × (r .base + r .length ≤ 2 ^ width p)

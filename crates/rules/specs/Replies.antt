@@ -4,6 +4,8 @@
 --   Plain, plain     the reply of a call that alters no hart record
 --   commit           the tables after a reply
 --   answerOf         the answer that the host gets for a reply
+--   pairOf           what a0 and a1 hold for an answer
+--   frontOf          the front part of the action memory that the host gets back
 --   memoryAfter      the action memory after a reply
 use mathlib.Core.Bool.{Bool, true, false, _&&_}
 use mathlib.Core.List.{List, [], _∷_, _++_, map}
@@ -20,10 +22,12 @@ use Rattle.rules.specs.declared.actions.Action.{Action}
 use Rattle.rules.specs.declared.answers.Answer.{Answer}
 use Rattle.rules.specs.declared.answers.Answer.the-variants.{Pair, Refused}
 
+-- what an operation of a hart is shown
 pub record View : Type 0 where
   pub harts : List Hart
   pub own : List Counter
 
+-- what an operation of hart h is shown of the tables
 unfoldable pub view : Tables → ℕ → View
 view t h = record { harts = t .harts; own = ownAt t h }
 
@@ -38,6 +42,7 @@ pub record Done : Type 0 where
   pub code : ℕ
   pub told : List ℕ
 
+-- Hk, an error pair, or what was done
 pub data Reply : Type 0 where
   refused : (k : ℕ) → Reply
   failed : (error : ℤ) → Reply
@@ -65,11 +70,13 @@ moves v k acts hs = did
 -- ----- calls that alter no hart record: an error, a value and the caller's counters after, or
 -- actions
 
+-- what such a call answers
 pub data Plain : Type 0 where
   fails : (error : ℤ) → Plain
   gives : (value : ℕ) → (own : List Counter) → Plain
   sends : List Action → (code : ℕ) → (told : List ℕ) → Plain
 
+-- its reply to a caller that was shown v
 unfoldable pub plain : View → Plain → Reply
 plain v (fails e) = failed e
 plain v (gives n cs) = did
@@ -96,6 +103,7 @@ plain v (sends acts c ks) = did
 -- ----- events: "An event adds one, going from 2^64 - 1 to 0, to every running counter of that hart
 -- mapped to its code."
 
+-- the counter c after an event of this code
 unfoldable pub counted : (code : ℕ) → Counter → Counter
 counted e c =
     if c .running && (c .mapped && eqb (c .code) e)
@@ -107,6 +115,7 @@ counted e c =
     }
     else c
 
+-- an event of this code in hart h
 unfoldable pub countAt : (h code : ℕ) → List (List Counter) → List (List Counter)
 countAt h e t = set t h (map (counted e) (getD t h []))
 
@@ -115,6 +124,7 @@ countAt h e t = set t h (map (counted e) (getD t h []))
 unfoldable pub tellOne : (h code k : ℕ) → List (List Counter) → List (List Counter)
 tellOne h e k t = if eqb k h then t else countAt k (e + 1) (countAt h e t)
 
+-- the events of these harts, one after another
 unfoldable pub tell : (h code : ℕ) → (told : List ℕ) → List (List Counter) → List (List Counter)
 tell h e [] t = t
 tell h e (k ∷ ks) t = tell h e ks (tellOne h e k t)
@@ -122,6 +132,7 @@ tell h e (k ∷ ks) t = tell h e ks (tellOne h e k t)
 -- ----- the tables after: "Every refusal, error pairs included, leaves the tables and all action
 -- memory unaltered"
 
+-- the tables after a reply to hart h
 unfoldable pub commit : Tables → (h : ℕ) → Reply → Tables
 commit t h (refused k) = t
 commit t h (failed e) = t
@@ -143,6 +154,12 @@ answerOf (refused k) = Refused k
 answerOf (failed e) = Pair e 0 false 0
 answerOf (did d) = Pair success (d .value) (d .parked) (length (d .actions))
 
+-- "Where an answer is an enum, there is a definition that gives this paper's number and values for
+-- each of its cases.": what a0 and a1 hold for a pair; Hk gives none. "No other register changes."
+unfoldable pub pairOf : Answer → List ℕ
+pairOf (Pair e v k n) = register e ∷ v ∷ []
+pairOf (Refused k) = []
+
 -- "the front part handed back is then empty"
 unfoldable pub actionsOf : Reply → List Action
 actionsOf (refused k) = []
@@ -159,8 +176,13 @@ wordsOf (a ∷ as′) = a .target ∷ a .kind ∷ a .start ∷ a .size ∷ a .id
 unfoldable pub laid : List ℕ → List ℕ → List ℕ
 laid words memory = words ++ drop (length words) memory
 
+-- the action memory after a reply
 unfoldable pub memoryAfter : List ℕ → Reply → List ℕ
 memoryAfter memory r = laid (wordsOf (actionsOf r)) memory
+
+-- "The host gets back the filled front part"
+unfoldable pub frontOf : Reply → List ℕ
+frontOf r = wordsOf (actionsOf r)
 
 -- "1 enter at an address (start, opaque, 0)"
 abbrev pub enter : (target address opaque : ℕ) → Action

@@ -29,6 +29,7 @@ pub data PlainRequest : Type 0 where
   counterRead counterReadHigh : (i : ℕ) → PlainRequest
   unknown : PlainRequest
 
+-- what a call asks for
 pub data Request : Type 0 where
   life : LifeRequest → Request
   other : PlainRequest → Request
@@ -45,6 +46,7 @@ baseRequest r =
     else if eqb (r .a6) 6 then baseMachine
     else unknown
 
+-- IPI, one function: the mask and its base
 unfoldable pub interruptRequest : Registers → PlainRequest
 interruptRequest r = if eqb (r .a6) 0 then interrupt (r .a0) (r .a1) else unknown
 
@@ -78,6 +80,7 @@ counterRequest r =
     else if eqb (r .a6) 6 then counterReadHigh (r .a0)
     else unknown
 
+-- what the registers of a call ask for, by the extension in a7
 unfoldable pub request : Registers → Request
 request r =
     if eqb (r .a7) BASE then other (baseRequest r)

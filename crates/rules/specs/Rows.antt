@@ -31,6 +31,7 @@ abbrev pub requestEvent : ℕ → Request → List InRow
 requestEvent h (life q) = lifeEvent h q ∷ []
 requestEvent h (other q) = []
 
+-- where each operation stands, if it stands in a row
 abbrev pub eventOf : Operation → List InRow
 eventOf (call room h r) = requestEvent h (request r)
 eventOf (completion room h) = h does done ∷ []
@@ -46,22 +47,24 @@ ofHart h (k does e ∷ es) = if eqb h k then e ∷ ofHart h es else ofHart h es
 unfoldable pub adds : Platform → ℕ → Tables → Operation → List Event
 adds p h t op = if accepted (reply p t op) then ofHart h (eventOf op) else []
 
+-- what a history adds to the row of h
 abbrev pub rowOf : Platform → ℕ → Tables → List Operation → List Event
 rowOf p h t [] = []
 rowOf p h t (op ∷ ops) = adds p h t op ++ rowOf p h (after p t op) ops
 
--- "The boot hart counts as already past its first start and done."
+-- "The boot hart counts as already past its first start and done." (demand 3)
 unfoldable pub prior : Platform → ℕ → List Event
 prior p h = if eqb h (p .boot) then start ∷ done ∷ [] else []
 
--- the tables after a history from fresh, and the row of h so far
+-- the tables after a history from fresh
 abbrev pub tablesNow : Platform → List Operation → Tables
 tablesNow p ops = afterAll p (fresh p) ops
 
+-- the row of h so far
 abbrev pub rowNow : Platform → List Operation → ℕ → List Event
 rowNow p ops h = prior p h ++ rowOf p h (fresh p) ops
 
--- "for a call, .. its type and address pass"
+-- "for a call, .. its type and address pass" (demand 3)
 unfoldable pub passes : Platform → Request → Bool
 passes p (life (hartStart k a o)) = validAddress p a
 passes p (life hartStop) = true
@@ -70,7 +73,7 @@ passes p (life (hartSuspend y a o)) =
 passes p (other q) = true
 
 -- "its action memory is long enough and, for a call, its caller is running and its type and address
--- pass"
+-- pass" (demand 3)
 unfoldable pub ready : Platform → Tables → Operation → Bool
 ready p t (call room h r) = leb actionMemory room
     && (eqb (stateOf (t .harts) h) STARTED && passes p (request r))

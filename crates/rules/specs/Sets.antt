@@ -17,16 +17,20 @@ use Prim.Native.Nat.{ℕ, zero, suc, _+_, _-_, _^_, _/_, _%_, _≤_}
 use lib.Dec.{eqb, ltb, leb}
 use Rattle.rules.specs.Choice.{if_then_else_}
 
+-- bit i of m is set
 unfoldable pub bit : ℕ → ℕ → Bool
 bit m i = eqb (m / 2 ^ i % 2) 1
 
+-- all ones of w bits
 abbrev pub ones : ℕ → ℕ
 ones w = 2 ^ w - 1
 
+-- f holds at each number below n
 unfoldable pub every : ℕ → (ℕ → Bool) → Bool
 every zero f = true
 every (suc n) f = every n f && f n
 
+-- the numbers below n at which f holds, ascending
 unfoldable pub those : ℕ → (ℕ → Bool) → List ℕ
 those zero f = []
 those (suc n) f = those n f ++ (if f n then n ∷ [] else [])
@@ -36,6 +40,7 @@ those (suc n) f = those n f ++ (if f n then n ∷ [] else [])
 unfoldable pub numbers : (w base m : ℕ) → List ℕ
 numbers w base m = map (λ (i : ℕ). base + i) (those w (bit m))
 
+-- k is one of these numbers, asked of k alone
 unfoldable pub names : (w base m k : ℕ) → Bool
 names w base m k = leb base k && (ltb (k - base) w && bit m (k - base))
 
@@ -44,9 +49,11 @@ abbrev pub Above : ℕ → List ℕ → Type 0
 Above b [] = Unit
 Above b (x ∷ l) = (b ≤ x) × Above (suc x) l
 
+-- each number is greater than the one before it
 abbrev pub Ascending : List ℕ → Type 0
 Ascending = Above 0
 
+-- the first of a list, if any
 unfoldable pub first : List ℕ → Option ℕ
 first [] = none
 first (x ∷ xs) = some x
