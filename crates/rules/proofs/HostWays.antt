@@ -21,6 +21,14 @@ module _ (p : Platform) (t : Tables) where
   module _ (op : Operation) where
     -- ----- H1
 
+    pub reply-ill : wellFormed p t ≡ false → reply p t op ≡ refused notWellFormed
+    unfolding reply
+    reply-ill e = if-true _ _ (ap not e)
+
+    pub reply-well : wellFormed p t ≡ true → reply p t op ≡ checkedReply p t op
+    unfolding reply
+    reply-well e = if-false _ _ (ap not e)
+
     pub reply-no-platform : platformAccepted p ≡ false → reply p t op ≡ refused notWellFormed
     unfolding reply wellFormed
     reply-no-platform e = if-true _ _ (rw e refl)

@@ -1,16 +1,20 @@
 -- Which request a call's registers make, by its extension and its function.
-use mathlib.Core.Path.{_≡_, refl}
-use Prim.Native.Nat.{_^_, _%_, _<_}
-use borrow.Author.Tests.{ne-eqb, lt-leb}
+use mathlib.Core.Path.{_≡_, refl, _∙_}
+use mathlib.Core.Bool.{true, false, _||_}
+use Prim.Native.Nat.{_≤_, _^_, _%_, _<_}
 use native.Mathlib.Omega.{arith}
+use lib.Dec.{eqb}
+use borrow.Author.Tests.{le-leb, ne-eqb, lt-leb}
 use Rattle.rules.specs.Choice.{if_then_else_}
 use Rattle.rules.specs.Names.{BASE, IPI, RFENCE, HSM, PMU}
 use Rattle.rules.specs.Requests.{hartStart, hartStop, hartSuspend, life, other, baseVersion, baseImplementation}
-use Rattle.rules.specs.Requests.{baseImplementationVersion, baseProbe, baseVendor, baseArchitecture, baseMachine}
-use Rattle.rules.specs.Requests.{interrupt, fence, hartStatus, counterCount, counterDetails, counterConfigure}
-use Rattle.rules.specs.Requests.{counterStart, counterStop, counterRead, counterReadHigh, unknown, baseRequest}
-use Rattle.rules.specs.Requests.{interruptRequest, fenceRequest, hartRequest, counterRequest, request}
+use Rattle.rules.specs.Requests.{baseImplementationVersion, baseProbe, baseVendor, baseArchitecture}
+use Rattle.rules.specs.Requests.{baseMachine, interrupt, fence, hartStatus, counterCount, counterDetails}
+use Rattle.rules.specs.Requests.{counterConfigure, counterStart, counterStop, counterRead, counterReadHigh}
+use Rattle.rules.specs.Requests.{unknown, baseRequest, interruptRequest, fenceRequest, hartRequest}
+use Rattle.rules.specs.Requests.{counterRequest, request}
 use Rattle.rules.specs.declared.answers.Registers.{Registers}
+use Rattle.rules.proofs.Logic.{if-true, if-false}
 
 module _ (r : Registers) where
   -- ----- the extension
@@ -57,40 +61,20 @@ module _ (r : Registers) where
   unfolding fenceRequest if_then_else_
   fence-0 e = rw e refl
 
-  pub fence-2 : r .a6 ≡ 2 → fenceRequest r ≡ fence 2 (r .a0) (r .a1) (r .a2) (r .a3) (r .a4)
-  unfolding fenceRequest if_then_else_
-  fence-2 e = rw e refl
+  module _ (n : r .a6 ≡ 0 → ⊥) where
+    pub fence-with-id : (eqb (r .a6) 2 || (eqb (r .a6) 3 || eqb (r .a6) 5)) ≡ true
+        → fenceRequest r ≡ fence (r .a6) (r .a0) (r .a1) (r .a2) (r .a3) (r .a4)
+    unfolding fenceRequest
+    fence-with-id e = if-false _ _ (ne-eqb _ _ n) ∙ if-true _ _ e
 
-  pub fence-3 : r .a6 ≡ 3 → fenceRequest r ≡ fence 3 (r .a0) (r .a1) (r .a2) (r .a3) (r .a4)
-  unfolding fenceRequest if_then_else_
-  fence-3 e = rw e refl
+    module _ (m : (eqb (r .a6) 2 || (eqb (r .a6) 3 || eqb (r .a6) 5)) ≡ false) where
+      pub fence-with-range : r .a6 < 7 → fenceRequest r ≡ fence (r .a6) (r .a0) (r .a1) (r .a2) (r .a3) 0
+      unfolding fenceRequest
+      fence-with-range l = if-false _ _ (ne-eqb _ _ n) ∙ if-false _ _ m ∙ if-true _ _ (le-leb (r .a6) 6 (omega arith))
 
-  pub fence-5 : r .a6 ≡ 5 → fenceRequest r ≡ fence 5 (r .a0) (r .a1) (r .a2) (r .a3) (r .a4)
-  unfolding fenceRequest if_then_else_
-  fence-5 e = rw e refl
-
-  pub fence-1 : r .a6 ≡ 1 → fenceRequest r ≡ fence 1 (r .a0) (r .a1) (r .a2) (r .a3) 0
-  unfolding fenceRequest if_then_else_
-  fence-1 e = rw e refl
-
-  pub fence-4 : r .a6 ≡ 4 → fenceRequest r ≡ fence 4 (r .a0) (r .a1) (r .a2) (r .a3) 0
-  unfolding fenceRequest if_then_else_
-  fence-4 e = rw e refl
-
-  pub fence-6 : r .a6 ≡ 6 → fenceRequest r ≡ fence 6 (r .a0) (r .a1) (r .a2) (r .a3) 0
-  unfolding fenceRequest if_then_else_
-  fence-6 e = rw e refl
-
-  pub fence-unknown : 6 < r .a6 → fenceRequest r ≡ unknown
-  unfolding fenceRequest if_then_else_
-  fence-unknown l =
-      rw (
-        ne-eqb (r .a6) 0 (λ e. omega arith),
-        ne-eqb (r .a6) 2 (λ e. omega arith),
-        ne-eqb (r .a6) 3 (λ e. omega arith),
-        ne-eqb (r .a6) 5 (λ e. omega arith),
-        lt-leb (r .a6) 6 l,
-      ) refl
+      pub fence-unknown : 7 ≤ r .a6 → fenceRequest r ≡ unknown
+      unfolding fenceRequest
+      fence-unknown l = if-false _ _ (ne-eqb _ _ n) ∙ if-false _ _ m ∙ if-false _ _ (lt-leb (r .a6) 6 (omega arith))
 
   -- ----- Base
 

@@ -1,0 +1,6 @@
+-- Laws of what the dispatcher has to meet, and what follows from its contracts.
+pub mod MeetsLaws
+pub mod LayingLaws
+pub mod TellingLaws
+pub mod ChoiceLaws
+pub mod CounterSetLaws
