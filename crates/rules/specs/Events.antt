@@ -1,5 +1,5 @@
 -- Firmware events and what fences hand on, by the standard's names, and how often an event is
--- counted. Only the promises cite this file.
+-- counted. In specs/ only the promises cite this file.
 use mathlib.Core.List.{List, [], _∷_}
 use Prim.Native.Nat.{ℕ, zero, suc}
 use lib.Dec.{eqb}
