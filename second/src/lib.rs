@@ -23,6 +23,7 @@ pub mod platform;
 pub mod raw;
 pub mod record;
 pub mod rules;
+pub mod script;
 pub mod tables;
 pub mod transcript;
 

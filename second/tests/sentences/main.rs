@@ -15,6 +15,7 @@ mod platforms;
 mod program;
 mod program_input;
 mod refusals;
+mod script;
 mod start_stop_read;
 mod states;
 mod well_formed;
