@@ -11,6 +11,7 @@ pub mod checks;
 pub mod coverage;
 pub mod describe;
 pub mod effects;
+pub mod explain;
 pub mod function;
 pub mod generate;
 pub mod hart;

@@ -6,6 +6,7 @@ mod dispatch;
 mod edges;
 mod errors;
 mod events;
+mod explain;
 mod fences;
 mod generator;
 mod hart_calls;
