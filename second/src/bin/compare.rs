@@ -13,7 +13,7 @@ use second::transcript::{lines, Line};
 const USAGE: &str = "usage: compare PROGRAM [COUNT [FIRST [RECORDS]]]";
 /// Transcripts, first seed and records of a transcript, unless others are given.
 const FIXED: [u64; 3] = [100, 1, 700];
-/// Transcripts that differ and are shown; a program that is wrong throughout would flood the screen.
+/// So many that differ are shown: a program that is wrong throughout would flood the screen.
 const SHOWN: u64 = 10;
 
 fn main() -> ExitCode {
