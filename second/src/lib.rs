@@ -11,6 +11,7 @@ pub mod checks;
 pub mod coverage;
 pub mod describe;
 pub mod effects;
+pub mod explain;
 pub mod function;
 pub mod generate;
 pub mod hart;
@@ -23,6 +24,7 @@ pub mod platform;
 pub mod raw;
 pub mod record;
 pub mod rules;
+pub mod script;
 pub mod tables;
 pub mod transcript;
 

@@ -13,6 +13,8 @@ use second::transcript::{lines, Line};
 const USAGE: &str = "usage: compare PROGRAM [COUNT [FIRST [RECORDS]]]";
 /// Transcripts, first seed and records of a transcript, unless others are given.
 const FIXED: [u64; 3] = [100, 1, 700];
+/// So many that differ are shown: a program that is wrong throughout would flood the screen.
+const SHOWN: u64 = 10;
 
 fn main() -> ExitCode {
     let arguments: Vec<String> = env::args().skip(1).collect();
@@ -40,7 +42,7 @@ fn compare_all(program: &str, [count, first, records]: [u64; 3]) -> ExitCode {
     println!("0 to 9 records for seeds that 10 divides; odd seeds are written in pieces");
     let mut failed = 0;
     for seed in seeds(first, count) {
-        match compare(program, seed, records_of(seed, records)) {
+        match compare(program, seed, records_of(seed, records), failed < SHOWN) {
             Ok(true) => {}
             Ok(false) => failed += 1,
             Err(error) => {
@@ -48,6 +50,9 @@ fn compare_all(program: &str, [count, first, records]: [u64; 3]) -> ExitCode {
                 return ExitCode::from(2);
             }
         }
+    }
+    if failed > SHOWN {
+        println!("{} more differ and are not shown", failed - SHOWN);
     }
     println!("{} passed, {failed} failed", count - failed);
     ExitCode::from(u8::from(failed > 0))
@@ -62,14 +67,17 @@ fn records_of(seed: u64, records: u64) -> u64 {
     }
 }
 
-/// Whether both programs print the same; if not, says where they part.
-fn compare(program: &str, seed: u64, records: u64) -> io::Result<bool> {
+/// Whether both programs print the same; if not and it is to be shown, says where they part.
+fn compare(program: &str, seed: u64, records: u64, show: bool) -> io::Result<bool> {
     let input = transcript(seed, records as usize);
     let ours = lines(DOCUMENT_01, &input);
     let (status, theirs) = run(program, &input, seed)?;
     let printed: String = ours.iter().map(|line| format!("{line}\n")).collect();
     if printed.as_bytes() == theirs && status.success() {
         return Ok(true);
+    }
+    if !show {
+        return Ok(false);
     }
     println!("seed {seed}, {records} records (generate {seed} {records}):");
     if !status.success() {
