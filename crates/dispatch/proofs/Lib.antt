@@ -4,3 +4,5 @@ pub mod LayingLaws
 pub mod TellingLaws
 pub mod ChoiceLaws
 pub mod CounterSetLaws
+pub mod AnswerLaws
+pub mod Outcomes

@@ -1,1 +1,3 @@
 pub mod Meets
+pub mod Steps
+pub mod Outcomes
