@@ -29,7 +29,7 @@ use Rattle.rules.proofs.Passed.{if-did, accepted-did}
 use Rattle.rules.proofs.Theorems.{front-exact}
 use Rattle.dispatch.specs.Meets.{countIn}
 use Rattle.dispatch.specs.Steps.{isZero, isSuccess}
-use Rattle.dispatch.specs.Outcomes.{ListedAnswer, answers-refusal, answers-error}
+use Rattle.dispatch.specs.Conditions.{ListedAnswer, answers-refusal, answers-error}
 use Rattle.dispatch.proofs.LayingLaws.{words-length}
 
 -- ----- the front part

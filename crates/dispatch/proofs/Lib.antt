@@ -6,3 +6,4 @@ pub mod ChoiceLaws
 pub mod CounterSetLaws
 pub mod AnswerLaws
 pub mod Outcomes
+pub mod Conditions

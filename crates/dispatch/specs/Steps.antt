@@ -1,6 +1,6 @@
 -- Histories of the host's functions: their contracts as steps, and steps one after another.
 --   Lent op m               the room that the operation op names is the length of the memory m
---   Step p op t t′ m m′ a   a function did op: rows t and memory m before, t′ and m′ after, answer a
+--   Step p op t t′ m m′ a   op was done: rows t and memory m before, t′ and m′ after, answer a
 --   Run p t ops t′          steps of the operations ops lead from the rows t to the rows t′
 --   Freshens p t t′ a       the contract of `fresh`: rows t before, t′ after, answer a
 --   HandsBack m a r         the contract of `front`: the part r of the memory m for the answer a
