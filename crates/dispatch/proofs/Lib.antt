@@ -4,3 +4,6 @@ pub mod LayingLaws
 pub mod TellingLaws
 pub mod ChoiceLaws
 pub mod CounterSetLaws
+pub mod AnswerLaws
+pub mod Outcomes
+pub mod Conditions

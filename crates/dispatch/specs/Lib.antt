@@ -1,1 +1,4 @@
 pub mod Meets
+pub mod Steps
+pub mod Outcomes
+pub mod Conditions
