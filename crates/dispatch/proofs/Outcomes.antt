@@ -13,7 +13,7 @@ use Rattle.rules.proofs.Theorems.{well-formed-kept}
 use Rattle.rules.proofs.HostWays.{reply-checked}
 use Rattle.rules.proofs.Logic.{and-of, and-r}
 use Rattle.dispatch.proofs.MeetsLaws.{by}
-use Rattle.dispatch.specs.Steps.{no-step, first-step}
+use Rattle.dispatch.specs.Steps.{Run, no-step, first-step}
 use Rattle.dispatch.specs.Outcomes.{CheckedAgree, ContractsStep, FreshRowsFollow, OneFresh, OneFront}
 use Rattle.dispatch.specs.Outcomes.{OneOutcome, OneRun, RowsFollow}
 
@@ -62,9 +62,10 @@ fresh-rows-follow p lent t t′ a ops ok f r =
 
 -- a history settles the rows
 pub one-run : OneRun
-one-run p t t₁ t₂ ops k x y =
-    let held : Holds t (seen t) = record { is = refl; shaped = k } in
-    held-once t₁ t₂ _ (rows-follow p t t₁ (seen t) ops held x) (rows-follow p t t₂ (seen t) ops held y)
+one-run p t t₁ t₂ [] no-step no-step = refl
+one-run p t t₁ t₂ (op ∷ ops) (first-step {t₁ = u} x r) (first-step {t₁ = v} y s) =
+    let e : u ≡ v = held-once u v _ (x .meets .tables) (y .meets .tables) in
+    one-run p v t₁ t₂ ops (subst (λ (z : List (List ℕ)). Run p z ops t₁) e r) s
 
 -- ----- the functions on tables that are well formed
 

@@ -11,7 +11,7 @@ use Rattle.rules.specs.Replies.{Reply}
 use Rattle.rules.specs.Machine.{Operation, call, completion, waking, event, hartOf, checkedReply}
 use Rattle.rules.specs.Machine.{reply, afterAll}
 use Rattle.rules.specs.Rows.{tablesNow}
-use Rattle.tables.specs.Keeping.{seen, Shaped, Holds}
+use Rattle.tables.specs.Keeping.{seen, Holds}
 use Rattle.rules.specs.declared.answers.Answer.{Answer}
 use Rattle.rules.specs.declared.answers.Registers.{Registers}
 use Rattle.rules.specs.declared.platform.Platform.{Platform}
@@ -37,9 +37,9 @@ abbrev pub OneFront : Type 0
 OneFront = (m r₁ r₂ : RefT (List ℕ)) (a : Answer) → HandsBack m a r₁ → HandsBack m a r₂
     → (now r₁ ≡ now r₂) × (r₁ .ptr ≡ r₂ .ptr)
 
--- of a history: each step is settled, so its rows are
+-- of a history: each step is settled, so the last rows are
 abbrev pub OneRun : Type 0
-OneRun = (p : Platform) (t t₁ t₂ : List (List ℕ)) (ops : List Operation) → Shaped t → Run p t ops t₁
+OneRun = (p : Platform) (t t₁ t₂ : List (List ℕ)) (ops : List Operation) → Run p t ops t₁
     → Run p t ops t₂ → t₁ ≡ t₂
 
 -- ----- steps and runs
