@@ -91,8 +91,10 @@ class Code:
                 used += amount if step.group(1) == "sub" else -amount
             elif re.search(r",%rsp$", text) and not text.startswith(("cmp", "test")):
                 raise SystemExit(f"{name}: rsp is put by {text}")
-            own = max(own, used)
-            deep = max(deep, used)
+            # a function that calls nothing may write below the stack pointer
+            below = max([int(n, 16) for n in re.findall(r"-(0x[0-9a-f]+)\(%rsp", text)], default=0)
+            own = max(own, used + below)
+            deep = max(deep, used + below)
             target = re.match(r"(call|j[a-z]+)\s+([0-9a-f]+) <", text)
             if target:
                 to = int(target.group(2), 16)
