@@ -1,5 +1,6 @@
-// Calls ours and the twin on the same words: first with many chosen and random operations, where
-// answer, tables and actions must agree, then once for each kind of operation that is counted.
+// Calls ours and the twin on the same words: first with many random operations, where answer, tables
+// and actions must agree and every refusal, error and function must occur, then once for each kind of
+// operation that is counted.
 // Writes 'KIND HARTS SIDE ' before each counted operation; what counts adds the number.
 #![no_std]
 #![no_main]
@@ -236,6 +237,48 @@ fn word(x: &mut Random, harts: u64) -> u64 {
     }
 }
 
+fn address(x: &mut Random) -> u64 {
+    x.of(&[0x80000000, 0x8ffffffe, 0x100000000, 0x13ffffffe, 0x90000000, 0x80000001, 0, u64::MAX])
+}
+
+// Registers of a call that is often, but not always, accepted.
+fn registers(x: &mut Random, harts: u64) -> [u64; 8] {
+    let mut r = [0; 8];
+    for i in 0..6 {
+        r[i] = word(x, harts);
+    }
+    r[6] = x.below(9);
+    r[7] = x.of(&[BASE, IPI, RFENCE, RFENCE, HSM, HSM, PMU, PMU, PMU, 7]);
+    if x.below(8) == 0 {
+        return r;
+    }
+    match r[7] {
+        IPI | RFENCE => {
+            r[0] = x.next() & x.next() & if harts == 4 { 15 } else { u64::MAX };
+            r[1] = x.of(&[0, 0, 1, 63, 64, 65, 100, 127, 128, u64::MAX, u64::MAX - 1]);
+            r[3] = x.of(&[0, 4096, 1 << 63, u64::MAX - 1, u64::MAX]);
+            r[4] = x.of(&[0, 1, 0x3fff, 0x4000, 0xffff, 0x10000]);
+            r[6] = if r[7] == IPI { 0 } else { x.below(7) };
+        }
+        HSM => {
+            r[0] = if x.below(2) == 0 { x.of(&[0, 0x80000000, 1 << 32]) } else { x.below(harts) };
+            r[1] = address(x);
+            r[6] = x.below(4);
+        }
+        PMU => {
+            r[0] = x.below(9);
+            r[1] = x.of(&[0, 1, 1, 2, 3, 5, 255, 256]);
+            r[2] = x.of(&[0, 1, 2, 3, 4, 5, 7, 255, 256]);
+            if r[6] == 2 {
+                r[3] = 0xF0000 + x.below(24);
+                r[4] = x.below(8) / 7;
+            }
+        }
+        _ => {}
+    }
+    r
+}
+
 fn operation(x: &mut Random, harts: u64) -> Operation {
     let h = if x.below(16) == 0 { x.below(140) } else { x.below(harts) };
     match x.below(16) {
@@ -243,63 +286,86 @@ fn operation(x: &mut Random, harts: u64) -> Operation {
         2 => Wake { h },
         3 => Event { h, code: x.below(7) },
         4 => Test,
-        5 if x.below(40) == 0 => Fresh,
-        _ => {
-            let mut r = [0; 8];
-            for i in 0..6 {
-                r[i] = word(x, harts);
+        5 if x.below(16) == 0 => Fresh,
+        _ => Call { h, r: registers(x, harts) },
+    }
+}
+
+// Any well-formed tables, with many harts STARTED.
+fn scramble(x: &mut Random, p: &Platform, t: &mut Rows) {
+    for h in 0..128 {
+        t[h] = [0; 12];
+        t[h][0] = 4;
+        if p[h / 64] >> (h % 64) & 1 != 0 {
+            t[h][0] = if x.below(4) == 0 { 2 + x.below(14) } else { 2 };
+            t[h][1] = address(x);
+            t[h][2] = x.next();
+            for i in 0..8 {
+                t[h][3] |= x.of(&[0, 1, 3, 22, 23, 25, 29, 30, 31, 33, 44]) << (8 * i);
+                t[h][4 + i] = word(x, 128);
             }
-            r[6] = x.below(9);
-            r[7] = x.of(&[BASE, IPI, RFENCE, HSM, PMU, PMU, HSM, RFENCE, IPI, 7]);
-            if r[7] == IPI {
-                r[6] = x.below(20) / 19;
-            }
-            if r[7] == RFENCE || r[7] == IPI {
-                match x.below(4) {
-                    0 => r[1] = u64::MAX,
-                    1 => r[1] = x.below(140),
-                    _ => {
-                        r[0] = x.next() & x.next() & if harts == 4 { 15 } else { u64::MAX };
-                        r[1] = x.below(harts) & !3;
-                    }
-                }
-            }
-            Call { h, r }
         }
     }
 }
 
-fn compare(harts: u32, seed: u64, count: u32) {
+// Which refusals, errors and accepted calls have occurred: a bit for H1 to H6, for -2 to -9, and for
+// each function of each extension.
+fn occurred(o: Operation, out: &Out) -> u64 {
+    match (o, *out) {
+        (Test, _) => 0,
+        (_, [1, k, ..]) => 1 << k,
+        (Call { r, .. }, [_, 0, ..]) => match r[7] {
+            BASE => 1 << (20 + r[6]),
+            IPI => 1 << 27,
+            RFENCE => 1 << (28 + r[6]),
+            HSM => 1 << (35 + r[6]),
+            _ => 1 << (39 + r[6]),
+        },
+        (Call { .. }, [_, error, ..]) => 1 << (8 + 0u64.wrapping_sub(error)),
+        (Completion { .. }, _) => 1 << 46,
+        (Wake { .. }, [.., n]) => 1 << (47 + n),
+        (Event { .. }, _) => 1 << 49,
+        (Fresh, _) => 1 << 50,
+    }
+}
+
+// H1 to H6, -2, -3 and -5 to -9, and everything from bit 20 to 50.
+const ALL: u64 = 0x7e | 0b11 << 10 | 0b11111 << 13 | (1 << 51) - (1 << 20);
+
+fn compare(harts: u32, seed: u64, count: u32) -> u64 {
     let mut x = Random(seed);
     let mut p = platform(harts);
     let mut ours = world(&p, false);
     let mut twin = ours;
-    for _ in 0..count {
+    let mut seen = 0;
+    for n in 0..count {
+        if n % 16 == 0 {
+            scramble(&mut x, &p, &mut ours.t);
+            twin.t = ours.t;
+        }
         let o = operation(&mut x, harts as u64);
         let room = if x.below(64) == 0 { x.below(640) as usize } else { 640 };
-        // now and then a word of the tables or of the platform is not what it should be
-        let spoiled = x.below(32) == 0;
-        let (h, i) = (x.below(128) as usize, x.below(12) as usize);
-        let was = ours.t[h][i];
-        if spoiled {
-            let new = word(&mut x, harts as u64);
-            ours.t[h][i] = new;
-            twin.t[h][i] = new;
+        // now and then a word of the tables or of the platform is another
+        let (h, i) = (x.below(128) as usize, x.of(&[0, 0, 1, 2, 3, 3, 3, 3, 4, 11]) as usize);
+        if x.below(32) == 0 {
+            ours.t[h][i] = match i {
+                0 => x.of(&[0, 1, 2, 4, 5, 15, 16, 17, u64::MAX]),
+                3 => x.of(&[44, 45, 46, 127, 128, 255]) << (8 * x.below(8)),
+                _ => word(&mut x, harts as u64),
+            };
+            twin.t[h][i] = ours.t[h][i];
         }
-        let other = x.below(32) == 0;
-        let (j, kept) = (x.below(24) as usize, p);
-        if other {
-            p[j] = word(&mut x, harts as u64);
+        let kept = p;
+        if x.below(32) == 0 {
+            p[x.below(24) as usize] = word(&mut x, harts as u64);
         }
         act(Side::Ours, &p, &mut ours, room, o);
         act(Side::Twin, &p, &mut twin, room, o);
         agree(&ours, &twin);
+        seen |= occurred(o, &ours.out);
         p = kept;
-        if spoiled {
-            ours.t[h][i] = was;
-            twin.t[h][i] = was;
-        }
     }
+    seen
 }
 
 // ---- counts
@@ -353,8 +419,13 @@ fn counts(harts: u32) {
 #[no_mangle]
 extern "C" fn begin() -> ! {
     for harts in [4, 128] {
+        let mut seen = 0;
         for seed in 1..5 {
-            compare(harts, seed, COMPARED);
+            seen |= compare(harts, seed, COMPARED);
+        }
+        if seen & ALL != ALL {
+            write("some refusal, error or accepted call did not occur\n");
+            stop(1);
         }
     }
     counts(4);
