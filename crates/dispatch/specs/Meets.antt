@@ -4,15 +4,15 @@
 --   Keeps t h q r           the same of a function that alters neither rows nor memory
 --   Ready p t m h           what a function behind the host's tests may rely on
 --   WellFormed p t          what a function behind the test of the tables may rely on
---   freshAnswer, countIn    the answer of making fresh tables; the number of actions in an answer
+--   countIn                 the number of actions in an answer
 --   toldOne, told           the tables once one hart, or some, were told of an event
 --   putAction               memory with one action put at a place
 use mathlib.Core.Path.{_≡_}
 use mathlib.Core.List.{List, [], _∷_, _++_}
-use mathlib.Core.Bool.{Bool, true, false}
+use mathlib.Core.Bool.{true}
 use Prim.Native.Nat.{ℕ, _+_, _≤_}
 use lib.ListN.{length, take, drop}
-use Rattle.rules.specs.Names.{actionMemory, success, notWellFormed}
+use Rattle.rules.specs.Names.{actionMemory}
 use Rattle.rules.specs.Platform.{enabled, platformAccepted}
 use Rattle.rules.specs.Tables.{Tables, tablesWellFormed}
 use Rattle.rules.specs.Replies.{Reply, tellOne, tell, commit, answerOf, memoryAfter}
@@ -53,11 +53,6 @@ pub record WellFormed (p : Platform) (t : List (List ℕ)) : Type 0 where
   pub shaped : Shaped t
   pub accepted : platformAccepted p ≡ true
   pub fine : tablesWellFormed p (seen t) ≡ true
-
--- making fresh tables of an accepted platform, or of one that is not
-abbrev pub freshAnswer : Bool → Answer
-freshAnswer true = Pair success 0 false 0
-freshAnswer false = Refused notWellFormed
 
 abbrev pub countIn : Answer → ℕ
 countIn (Pair e v parked n) = n

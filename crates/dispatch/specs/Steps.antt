@@ -14,12 +14,13 @@ use lib.IntN.{ℤ, pos, negsuc}
 use lib.ListN.{length, take}
 use Rattle.rules.specs.Platform.{platformAccepted}
 use Rattle.rules.specs.Machine.{Operation, call, completion, waking, event, hartOf, reply}
+use Rattle.rules.specs.Machine.{freshAnswer}
 use Rattle.tables.specs.Keeping.{seen, FreshOr}
 use Rattle.rules.specs.declared.answers.Answer.{Answer}
 use Rattle.rules.specs.declared.answers.Answer.the-variants.{Pair, Refused}
 use Rattle.rules.specs.declared.platform.Platform.{Platform}
 use denote.Ref.{RefT, now}
-use Rattle.dispatch.specs.Meets.{Meets, freshAnswer, countIn}
+use Rattle.dispatch.specs.Meets.{Meets, countIn}
 
 -- calls, completions and wakes lend action memory; an event lends none, so any memory stands by
 abbrev pub Lent : Operation → List ℕ → Type 0
@@ -43,7 +44,7 @@ pub data Run (p : Platform) : List (List ℕ) → List Operation → List (List 
 -- the contract of `fresh`
 abbrev pub Freshens : Platform → (t t′ : List (List ℕ)) → Answer → Type 0
 Freshens p t t′ a =
-    (a ≡ freshAnswer (platformAccepted p)) × FreshOr (platformAccepted p) p t t′
+    (a ≡ freshAnswer p) × FreshOr (platformAccepted p) p t t′
 
 -- the contract of `front`
 abbrev pub HandsBack : (m : RefT (List ℕ)) → Answer → (r : RefT (List ℕ)) → Type 0

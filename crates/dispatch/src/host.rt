@@ -6,9 +6,9 @@ ghost use Prim.Native.Nat.{ℕ, _*_, min};
 ghost use lib.ListN.{length, take};
 ghost use Rattle.rules.specs.Platform.{platformAccepted};
 ghost use Rattle.rules.specs.Tables.{wellFormed};
-ghost use Rattle.rules.specs.Machine.{call, completion, waking, event, reply};
+ghost use Rattle.rules.specs.Machine.{call, completion, waking, event, reply, freshAnswer};
 ghost use Rattle.tables.specs.Keeping.{seen, Shaped, FreshOr};
-ghost use Rattle.dispatch.specs.Meets.{Meets, freshAnswer, countIn};
+ghost use Rattle.dispatch.specs.Meets.{Meets, countIn};
 use crate::checked;
 use rules::answers::Answer;
 use rules::answers::Registers;
@@ -28,7 +28,7 @@ fn is_well_formed(p: Platform, t: &Rows) -> bool
 
 // "Fresh": makes the lent rows the tables at power-up, or H1 with the rows as they were.
 pub fn fresh(p: Platform, t: &mut Rows) -> Answer
-    ensures { λ a. ⌜ (a ≡ freshAnswer (platformAccepted p))
+    ensures { λ a. ⌜ (a ≡ freshAnswer p)
         × FreshOr (platformAccepted p) p (now (t .entry)) (now (t .exit)) ⌝ }
 {
     if tables::make_fresh(p, t) {

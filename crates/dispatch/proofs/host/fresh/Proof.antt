@@ -1,8 +1,14 @@
 -- `fresh`: the platform decides.
-use mathlib.Core.Path.{sym, ap, _∙_}
+use mathlib.Core.Path.{_≡_, refl, sym, _∙_}
 use borrow.Author.Needs.{needs}
+use mathlib.Core.Bool.{true, false}
+use Rattle.rules.specs.Choice.{if_then_else_}
+use Rattle.rules.specs.Names.{success, notWellFormed}
+use Rattle.rules.specs.Platform.{platformAccepted}
 use Rattle.rules.specs.Replies.{answerOf}
-use Rattle.dispatch.specs.Meets.{freshAnswer}
+use Rattle.rules.specs.Machine.{freshAnswer}
+use Rattle.rules.specs.declared.answers.Answer.the-variants.{Pair, Refused}
+use Rattle.rules.specs.declared.platform.Platform.{Platform}
 use Rattle.dispatch.proofs.host.fresh.Statement.{statement}
 use Rattle.dispatch.proofs.host.fresh.Tie as tie
 
@@ -12,10 +18,18 @@ make-fresh-requires c κs = search needs
 success-requires : tie.Need-success-requires
 success-requires c κs = search needs
 
+accepted : (p : Platform) → platformAccepted p ≡ true → freshAnswer p ≡ Pair success 0 false 0
+unfolding freshAnswer if_then_else_
+accepted p e = rw e refl
+
+refused : (p : Platform) → platformAccepted p ≡ false → freshAnswer p ≡ Refused notWellFormed
+unfolding freshAnswer if_then_else_
+refused p e = rw e refl
+
 returns : tie.Need-returns
 returns c = (
   c .success .ensures ∙ sym
-      (ap freshAnswer (sym (c .before .before .make-fresh .ensures .0) ∙ c .before .if1 .taken)),
+      (accepted _ (sym (c .before .before .make-fresh .ensures .0) ∙ c .before .if1 .taken)),
   rw
       (c .before .before .make-fresh .ensures .0) at (c .before .before .make-fresh .ensures .1),
 )
@@ -27,7 +41,7 @@ returns-2 : tie.Need-returns-2
 unfolding answerOf
 returns-2 c = (
   c .not-well-formed .ensures ∙ sym
-      (ap freshAnswer (sym (c .before .before .make-fresh .ensures .0) ∙ c .before .if1 .left)),
+      (refused _ (sym (c .before .before .make-fresh .ensures .0) ∙ c .before .if1 .left)),
   rw
       (c .before .before .make-fresh .ensures .0) at (c .before .before .make-fresh .ensures .1),
 )
