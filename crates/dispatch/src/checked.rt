@@ -11,6 +11,7 @@ use crate::running::complete;
 use crate::running::rouse;
 use rules::answers::Answer;
 use rules::answers::Registers;
+use rules::numbers::ACTION_MEMORY;
 use rules::numbers::LAST_REPORTED;
 use rules::numbers::STARTED;
 use rules::platform::Platform;
@@ -22,7 +23,7 @@ pub fn call(p: Platform, t: &mut Rows, actions: &mut [u64], h: u64, r: Registers
     ensures { λ a. ⌜ Meets (now (t .entry)) (now (t .exit)) (now (actions .entry)) (now (actions .exit)) h
         (checkedReply p (seen (now (t .entry))) (call (length (now (actions .entry))) h r)) a ⌝ }
 {
-    if actions.len() < 640 {
+    if actions.len() < ACTION_MEMORY {
         return Answer::short_memory();
     }
     if !p.is_enabled(h) {
@@ -41,7 +42,7 @@ pub fn completion(p: Platform, t: &mut Rows, actions: &[u64], h: u64) -> Answer
     ensures { λ a. ⌜ ((m : List ℕ) → Meets (now (t .entry)) (now (t .exit)) m m h
         (checkedReply p (seen (now (t .entry))) (completion (length (now (actions .entry))) h)) a) ⌝ }
 {
-    if actions.len() < 640 {
+    if actions.len() < ACTION_MEMORY {
         return Answer::short_memory();
     }
     if !p.is_enabled(h) {
@@ -56,7 +57,7 @@ pub fn wake(p: Platform, t: &mut Rows, actions: &mut [u64], h: u64) -> Answer
     ensures { λ a. ⌜ Meets (now (t .entry)) (now (t .exit)) (now (actions .entry)) (now (actions .exit)) h
         (checkedReply p (seen (now (t .entry))) (waking (length (now (actions .entry))) h)) a ⌝ }
 {
-    if actions.len() < 640 {
+    if actions.len() < ACTION_MEMORY {
         return Answer::short_memory();
     }
     if !p.is_enabled(h) {

@@ -12,6 +12,7 @@ ghost use Rattle.dispatch.specs.Meets.{Meets, countIn};
 use crate::checked;
 use rules::answers::Answer;
 use rules::answers::Registers;
+use rules::numbers::ACTION_WORDS;
 use rules::platform::Platform;
 use tables::Rows;
 
@@ -92,8 +93,8 @@ fn front_length(a: Answer, room: usize) -> usize
             parked: _,
             actions,
         } => {
-            if actions <= (room / 5) as u64 {
-                return 5 * (actions as usize);
+            if actions <= (room / ACTION_WORDS) as u64 {
+                return ACTION_WORDS * (actions as usize);
             }
             room
         }

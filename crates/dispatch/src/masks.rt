@@ -14,7 +14,9 @@ ghost use Rattle.tables.specs.Keeping.{seen, Shaped, Holds};
 ghost use Rattle.dispatch.specs.Meets.{toldOne, told};
 use crate::laying::put_action;
 use rules::actions::Action;
+use rules::numbers::ACTION_WORDS;
 use rules::numbers::ALL_ONES;
+use rules::numbers::HARTS;
 use rules::numbers::STOP_PENDING;
 use rules::numbers::STOPPED;
 use rules::platform::Platform;
@@ -27,7 +29,7 @@ fn bit_fits(p: Platform, mask: u64, base: u64, i: u64) -> bool
     ensures { λ r. ⌜ r ≡ bitFits p mask base i ⌝ }
 {
     if bit_of(mask, i) {
-        if base < 128 {
+        if base < HARTS {
             return p.is_enabled(base + i);
         }
         return false;
@@ -108,7 +110,7 @@ pub fn all_hypervisors(p: Platform, mask: u64, base: u64) -> bool
     ensures { λ r. ⌜ r ≡ every harts (λ h. not (selects p mask base h) || hypervisor p h) ⌝ }
 {
     let mut h: u64 = 0;
-    while h < 128 {
+    while h < HARTS {
         if !hypervisor_fits(p, mask, base, h) {
             return false;
         }
@@ -129,7 +131,7 @@ pub fn lay(p: Platform, t: &Rows, out: &mut [u64], mask: u64, base: u64, like: A
         if is_told(p, t, mask, base, h) {
             put_action(
                 out,
-                5 * n,
+                ACTION_WORDS * n,
                 Action {
                     target: h as u64,
                     kind: like.kind,

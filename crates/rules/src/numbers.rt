@@ -84,9 +84,9 @@ pub const NON_RETENTIVE: u64 = 0x80000000;
 pub const ALL_ONES: u64 = 18446744073709551615;
 
 // "action memory under 640 words": one action of five words for each of 128 harts.
-pub const ACTION_WORDS: u64 = 5;
+pub const ACTION_WORDS: usize = 5;
 
-pub const ACTION_MEMORY: u64 = 640;
+pub const ACTION_MEMORY: usize = 640;
 
 // Action kinds; a fence's kind is FENCE plus its function.
 pub const ENTER: u64 = 1;

@@ -9,6 +9,7 @@ ghost use Rattle.rules.specs.Names.{harts};
 ghost use Rattle.rules.specs.Sets.{bit, every, all, any};
 ghost use Rattle.rules.specs.Platform.{has, enabled, hypervisor};
 ghost use Rattle.rules.specs.Platform.{liesIn, validAddress, rangeAccepted, platformAccepted};
+use crate::numbers::HARTS;
 use crate::numbers::MAX_ASID_WIDTH;
 use crate::numbers::MAX_RANGES;
 use crate::numbers::MAX_VMID_WIDTH;
@@ -60,7 +61,7 @@ impl HartSet {
         if h < 64 {
             return bit_of(self.low, h);
         }
-        if h < 128 {
+        if h < HARTS {
             return bit_of(self.high, h - 64);
         }
         false
