@@ -3,7 +3,7 @@
 use crate::action::Action;
 use crate::call::Call;
 use crate::effects;
-use crate::hart::Hart;
+use crate::hart::{Hart, State};
 use crate::numbers::{Error, Refusal, ACTION_MEMORY};
 use crate::operation::{Operation, Registers};
 use crate::platform::Platform;
@@ -136,12 +136,7 @@ fn done(
     hart: u8,
     record: &Hart,
 ) -> Result<(Answer, Tables), Refusal> {
-    let next = rules
-        .states
-        .done(record.state)
-        .ok_or(Refusal::StateForbids)?;
-    let mut tables = tables.clone();
-    tables.alter(hart, |h| rules.states.in_state(h, next));
+    let tables = moved(rules, tables, hart, rules.states.done(record.state))?;
     Ok((Answer::accepted(Vec::new()), tables))
 }
 
@@ -151,14 +146,17 @@ fn wake(
     hart: u8,
     record: &Hart,
 ) -> Result<(Answer, Tables), Refusal> {
-    let next = rules
-        .states
-        .wake(record.state)
-        .ok_or(Refusal::StateForbids)?;
-    let mut tables = tables.clone();
-    tables.alter(hart, |h| rules.states.in_state(h, next));
+    let tables = moved(rules, tables, hart, rules.states.wake(record.state))?;
     let actions = effects::enter_on_wake(rules, hart, &record.sleep);
     Ok((Answer::accepted(actions), tables))
+}
+
+/// The tables with the hart in its next state, if it has one.
+fn moved(rules: Rules, tables: &Tables, hart: u8, next: Option<State>) -> Result<Tables, Refusal> {
+    let next = next.ok_or(Refusal::StateForbids)?;
+    let mut tables = tables.clone();
+    tables.alter(hart, |h| rules.states.in_state(h, next));
+    Ok(tables)
 }
 
 fn event(rules: Rules, tables: &Tables, hart: u8, code: u64) -> Result<(Answer, Tables), Refusal> {
