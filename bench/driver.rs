@@ -5,103 +5,46 @@
 #![no_std]
 #![no_main]
 
-use core::arch::asm;
+#[path = "driver/system.rs"]
+mod system;
+use system::{counted_since, counted_until, number, stop, write};
 
 type Platform = [u64; 29];
 type Rows = [[u64; 12]; 128];
 type Actions = [u64; 640];
 type Out = [u64; 5];
 
-extern "C" {
-    fn ours_test(p: &Platform, t: &Rows) -> bool;
-    fn ours_fresh(p: &Platform, t: &mut Rows, out: &mut Out);
-    fn ours_call(
-        p: &Platform,
-        t: &mut Rows,
-        a: *mut u64,
-        room: usize,
-        h: u64,
-        r: &[u64; 8],
-        out: &mut Out,
-    );
-    fn ours_completion(
-        p: &Platform,
-        t: &mut Rows,
-        a: *const u64,
-        room: usize,
-        h: u64,
-        out: &mut Out,
-    );
-    fn ours_wake(p: &Platform, t: &mut Rows, a: *mut u64, room: usize, h: u64, out: &mut Out);
-    fn ours_event(p: &Platform, t: &mut Rows, h: u64, code: u64, out: &mut Out);
-    fn twin_test(p: &Platform, t: &Rows) -> bool;
-    fn twin_fresh(p: &Platform, t: &mut Rows, out: &mut Out);
-    fn twin_call(
-        p: &Platform,
-        t: &mut Rows,
-        a: *mut u64,
-        room: usize,
-        h: u64,
-        r: &[u64; 8],
-        out: &mut Out,
-    );
-    fn twin_completion(
-        p: &Platform,
-        t: &mut Rows,
-        a: *const u64,
-        room: usize,
-        h: u64,
-        out: &mut Out,
-    );
-    fn twin_wake(p: &Platform, t: &mut Rows, a: *mut u64, room: usize, h: u64, out: &mut Out);
-    fn twin_event(p: &Platform, t: &mut Rows, h: u64, code: u64, out: &mut Out);
-}
-
-// ---- the system
-
-fn system(number: u64, a: u64, b: u64, c: u64) -> u64 {
-    let r;
-    unsafe {
-        asm!("syscall", inlateout("rax") number => r, in("rdi") a, in("rsi") b, in("rdx") c,
-            out("rcx") _, out("r11") _)
+// The exports of a side, for both.
+macro_rules! exports {
+    ($($test:ident $fresh:ident $call:ident $completion:ident $wake:ident $event:ident;)*) => {
+        extern "C" {$(
+            fn $test(p: &Platform, t: &Rows) -> bool;
+            fn $fresh(p: &Platform, t: &mut Rows, out: &mut Out);
+            fn $call(
+                p: &Platform,
+                t: &mut Rows,
+                a: *mut u64,
+                room: usize,
+                h: u64,
+                r: &[u64; 8],
+                out: &mut Out,
+            );
+            fn $completion(
+                p: &Platform,
+                t: &mut Rows,
+                a: *const u64,
+                room: usize,
+                h: u64,
+                out: &mut Out,
+            );
+            fn $wake(p: &Platform, t: &mut Rows, a: *mut u64, room: usize, h: u64, out: &mut Out);
+            fn $event(p: &Platform, t: &mut Rows, h: u64, code: u64, out: &mut Out);
+        )*}
     };
-    r
 }
-
-fn write(s: &str) {
-    system(1, 1, s.as_ptr() as u64, s.len() as u64);
-}
-
-fn stop(code: u64) -> ! {
-    system(231, code, 0, 0);
-    loop {}
-}
-
-#[panic_handler]
-fn panic(_: &core::panic::PanicInfo) -> ! {
-    write("panic\n");
-    stop(3)
-}
-
-fn number(n: u64) {
-    if n >= 10 {
-        number(n / 10);
-    }
-    let digit = [b'0' + (n % 10) as u8];
-    write(unsafe { core::str::from_utf8_unchecked(&digit) });
-}
-
-// What is executed from the one to the other is counted.
-#[no_mangle]
-#[inline(never)]
-extern "C" fn counted_since() {
-    unsafe { asm!("nop") }
-}
-
-#[no_mangle]
-#[inline(never)]
-extern "C" fn counted_until() {
-    unsafe { asm!("nop", "nop") }
+exports! {
+    ours_test ours_fresh ours_call ours_completion ours_wake ours_event;
+    twin_test twin_fresh twin_call twin_completion twin_wake twin_event;
 }
 
 // ---- operations on both sides

@@ -3,6 +3,13 @@
 // enabled are folded by or, and the control bytes of a row are tested at once.
 #![no_std]
 
+#[path = "twin/counters.rs"]
+mod counters;
+#[path = "twin/selections.rs"]
+mod selections;
+use counters::{count, pmu};
+use selections::{ipi, rfence};
+
 type Row = [u64; 12];
 type Rows = [Row; 128];
 
@@ -110,6 +117,21 @@ impl Platform {
     }
 }
 
+// The places of the bits of a set, ascending.
+struct Bits(u64);
+
+impl Iterator for Bits {
+    type Item = usize;
+    fn next(&mut self) -> Option<usize> {
+        if self.0 == 0 {
+            return None;
+        }
+        let i = self.0.trailing_zeros() as usize;
+        self.0 &= self.0 - 1;
+        Some(i)
+    }
+}
+
 // ---- the table test
 
 // Not 0 if a control byte is over 44.
@@ -139,254 +161,6 @@ fn half_faults(enabled: u64, rows: &[Row]) -> u64 {
 #[inline(never)]
 fn well_formed(p: &Platform, t: &Rows) -> bool {
     half_faults(p.enabled[0], &t[..64]) | half_faults(p.enabled[1], &t[64..]) == 0
-}
-
-// ---- counters
-
-fn control_byte(r: &Row, i: usize) -> u64 {
-    r[CONTROL] >> (8 * i) & 255
-}
-
-fn put_control_byte(r: &mut Row, i: usize, b: u64) {
-    r[CONTROL] = r[CONTROL] & !(255 << (8 * i)) | b << (8 * i);
-}
-
-fn count(r: &mut Row, code: u64) {
-    let control = r[CONTROL];
-    if control == 0 {
-        return;
-    }
-    for i in 0..8 {
-        if control >> (8 * i) & 255 == code + RUNNING_CODE {
-            r[VALUES + i] = r[VALUES + i].wrapping_add(1);
-        }
-    }
-}
-
-// The counters base + i of the bits i of a mask, or none if one is over 7.
-fn counter_set(base: u64, mask: u64) -> Option<u64> {
-    if mask == 0 {
-        Some(0)
-    } else if base < 8 && mask >> (8 - base) == 0 {
-        Some(mask << base)
-    } else {
-        None
-    }
-}
-
-// The places of the bits of a set, ascending.
-struct Bits(u64);
-
-impl Iterator for Bits {
-    type Item = usize;
-    fn next(&mut self) -> Option<usize> {
-        if self.0 == 0 {
-            return None;
-        }
-        let i = self.0.trailing_zeros() as usize;
-        self.0 &= self.0 - 1;
-        Some(i)
-    }
-}
-
-fn configure(r: &mut Row, a: &[u64; 8]) -> Answer {
-    let [base, mask, flags, event, datum, ..] = *a;
-    if flags >= 256 {
-        return failed(INVALID_PARAM);
-    }
-    let Some(set) = counter_set(base, mask) else { return failed(INVALID_PARAM) };
-    if !(0xF0000..=0xF0015).contains(&event) {
-        return failed(NOT_SUPPORTED);
-    }
-    if datum != 0 {
-        return failed(INVALID_PARAM);
-    }
-    let skip = flags & 1 != 0;
-    for i in Bits(set & 255) {
-        let b = control_byte(r, i);
-        if skip || b < RUNNING_CODE {
-            let running = flags & 4 != 0 || b >= RUNNING_CODE;
-            let first = if running { RUNNING_CODE } else { STOPPED_CODE };
-            put_control_byte(r, i, first + (event - 0xF0000));
-            if flags & 2 != 0 {
-                r[VALUES + i] = 0;
-            }
-            return success(i as u64, false, 0);
-        }
-    }
-    failed(NOT_SUPPORTED)
-}
-
-fn start_counters(r: &mut Row, a: &[u64; 8]) -> Answer {
-    let [base, mask, flags, initial, ..] = *a;
-    if flags >= 4 {
-        return failed(INVALID_PARAM);
-    }
-    let Some(set) = counter_set(base, mask) else { return failed(INVALID_PARAM) };
-    if Bits(set & 255).any(|i| control_byte(r, i) == 0) {
-        return failed(INVALID_PARAM);
-    }
-    if flags & 2 != 0 {
-        return failed(NO_SHARED_MEMORY);
-    }
-    if Bits(set & 255).any(|i| control_byte(r, i) >= RUNNING_CODE) {
-        return failed(ALREADY_STARTED);
-    }
-    for i in Bits(set & 255) {
-        let b = control_byte(r, i);
-        put_control_byte(r, i, b + (RUNNING_CODE - STOPPED_CODE));
-        if flags & 1 != 0 {
-            r[VALUES + i] = initial;
-        }
-    }
-    success(0, false, 0)
-}
-
-fn stop_counters(r: &mut Row, a: &[u64; 8]) -> Answer {
-    let [base, mask, flags, ..] = *a;
-    if flags >= 4 {
-        return failed(INVALID_PARAM);
-    }
-    let Some(set) = counter_set(base, mask) else { return failed(INVALID_PARAM) };
-    if flags & 2 != 0 {
-        return failed(NO_SHARED_MEMORY);
-    }
-    if Bits(set & 255).any(|i| control_byte(r, i) < RUNNING_CODE) {
-        return failed(ALREADY_STOPPED);
-    }
-    for i in Bits(set & 255) {
-        let b = control_byte(r, i);
-        let unmaps = flags & 1 != 0;
-        put_control_byte(r, i, if unmaps { 0 } else { b - (RUNNING_CODE - STOPPED_CODE) });
-    }
-    success(0, false, 0)
-}
-
-fn read_counter(r: &Row, i: u64, high: bool) -> Answer {
-    if i >= 8 || control_byte(r, i as usize) == 0 {
-        return failed(INVALID_PARAM);
-    }
-    success(if high { 0 } else { r[VALUES + i as usize] }, false, 0)
-}
-
-fn pmu(r: &mut Row, a: &[u64; 8]) -> Answer {
-    match a[6] {
-        0 => success(8, false, 0),
-        1 if a[0] < 8 => success(1 << 63, false, 0),
-        1 => failed(INVALID_PARAM),
-        2 => configure(r, a),
-        3 => start_counters(r, a),
-        4 => stop_counters(r, a),
-        5 => read_counter(r, a[0], false),
-        6 => read_counter(r, a[0], true),
-        _ => failed(NOT_SUPPORTED),
-    }
-}
-
-// ---- selections
-
-// The selected harts as two words, or none if one is not enabled.
-fn selection(p: &Platform, mask: u64, base: u64) -> Option<[u64; 2]> {
-    if base == u64::MAX {
-        return Some(p.enabled);
-    }
-    if mask == 0 {
-        return Some([0, 0]);
-    }
-    if base >= 128 {
-        return None;
-    }
-    let (set, past) = if base == 0 {
-        ([mask, 0], 0)
-    } else if base < 64 {
-        ([mask << base, mask >> (64 - base)], 0)
-    } else if base == 64 {
-        ([0, mask], 0)
-    } else {
-        ([0, mask << (base - 64)], mask >> (128 - base))
-    };
-    if past | (set[0] & !p.enabled[0]) | (set[1] & !p.enabled[1]) != 0 {
-        return None;
-    }
-    Some(set)
-}
-
-// One action and one event for a hart, if it is reached.
-fn tell_one(
-    t: &mut Rows,
-    actions: &mut [u64; 640],
-    n: &mut usize,
-    caller: usize,
-    k: usize,
-    like: [u64; 4],
-    code: u64,
-) {
-    let state = t[k][STATE] / 2;
-    if state == STOPPED || state == STOP_PENDING {
-        return;
-    }
-    if let Some(a) = actions.get_mut(5 * *n..5 * *n + 5) {
-        a[0] = k as u64;
-        a[1..].copy_from_slice(&like);
-    }
-    *n += 1;
-    if k != caller {
-        count(&mut t[caller], code);
-        count(&mut t[k], code + 1);
-    }
-}
-
-fn tell(
-    t: &mut Rows,
-    actions: &mut [u64; 640],
-    caller: usize,
-    set: [u64; 2],
-    like: [u64; 4],
-    code: u64,
-) -> Answer {
-    let mut n = 0;
-    for half in 0..2 {
-        for i in Bits(set[half]) {
-            tell_one(t, actions, &mut n, caller, 64 * half + i, like, code);
-        }
-    }
-    success(0, false, n as u64)
-}
-
-fn is_below(id: u64, width: u64) -> bool {
-    width >= 64 || id >> width == 0
-}
-
-fn rfence(p: &Platform, t: &mut Rows, actions: &mut [u64; 640], h: usize, a: &[u64; 8]) -> Answer {
-    let fid = a[6];
-    if fid > 6 {
-        return failed(NOT_SUPPORTED);
-    }
-    let Some(set) = selection(p, a[0], a[1]) else { return failed(INVALID_PARAM) };
-    let (start, size) = if fid == 0 { (0, 0) } else { (a[2], a[3]) };
-    let (id, fits) = match fid {
-        2 | 5 => (a[4], is_below(a[4], p.asid)),
-        3 => (a[4], is_below(a[4], p.vmid)),
-        _ => (0, true),
-    };
-    if !fits {
-        return failed(INVALID_PARAM);
-    }
-    if fid >= 3 && (set[0] & !p.hypervisor[0]) | (set[1] & !p.hypervisor[1]) != 0 {
-        return failed(NOT_SUPPORTED);
-    }
-    if size != 0 && size != u64::MAX && start > u64::MAX - (size - 1) {
-        return failed(INVALID_ADDRESS);
-    }
-    tell(t, actions, h, set, [FENCE + fid, start, size, id], SENT[fid as usize])
-}
-
-fn ipi(p: &Platform, t: &mut Rows, actions: &mut [u64; 640], h: usize, a: &[u64; 8]) -> Answer {
-    if a[6] != 0 {
-        return failed(NOT_SUPPORTED);
-    }
-    let Some(set) = selection(p, a[0], a[1]) else { return failed(INVALID_PARAM) };
-    tell(t, actions, h, set, [INTERRUPT, 0, 0, 0], INTERRUPT_SENT)
 }
 
 // ---- hart states
