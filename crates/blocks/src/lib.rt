@@ -1,4 +1,6 @@
 // A block: 512 bytes, 64 little-endian words, whose first 63 are seven records of nine.
+#![tactic(auto)]
+
 ghost use Rattle.std.specs.Prelude.{◌≡◌, ◌+◌, ◌*◌, ◌<◌, ◌≤◌, ◌&&◌, length};
 ghost use Rattle.blocks.specs.Blocks.{word_at, words_at, passes, is, record_of, record_at};
 
@@ -7,7 +9,7 @@ use rules::answers::Registers;
 pub type Block = [u64; 64];
 
 // What a record asks for.
-#[derive(Drop)]
+#[derive(Clone, Copy)]
 pub enum Record {
     Unused,
     Call(u64, Registers),

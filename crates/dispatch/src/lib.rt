@@ -1,4 +1,6 @@
 // Calls, completions, wakes and reported events, over the promises of `tables` alone.
+#![tactic(auto)]
+
 mod laying; // actions put into lent memory
 mod masks; // a selection, asked of each hart
 mod hsm; // hart states

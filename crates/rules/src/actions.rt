@@ -8,7 +8,7 @@ ghost use Rattle.rules.specs.Fences.{sent_code};
 use crate::numbers::{ENTER, FENCE, INTERRUPT};
 
 // "An action is five words: target, kind, start, size, id."
-#[derive(Drop)]
+#[derive(Clone, Copy)]
 pub struct Action {
     pub target: u64,
     pub kind: u64,

@@ -14,7 +14,7 @@ use crate::numbers::{
 };
 
 // a6 holds the function, a7 the extension.
-#[derive(Drop)]
+#[derive(Clone, Copy)]
 pub struct Registers {
     pub a0: u64,
     pub a1: u64,
@@ -28,7 +28,7 @@ pub struct Registers {
 
 // What the host gets: the pair for a0 and a1 with the parked mark and the number of actions, or
 // a refusal Hk instead.
-#[derive(Drop)]
+#[derive(Clone, Copy)]
 pub enum Answer {
     Pair {
         error: i64,

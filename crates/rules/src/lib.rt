@@ -1,5 +1,7 @@
 // The rules of document 01: its plain types and numbers here, its sentences as definitions in
 // specs/, what follows from them in proofs/. Assumes nothing.
+#![tactic(auto)]
+
 pub mod numbers; // every number of document 01 under its name
 pub mod platform; // the platform record
 pub mod records; // a hart's record and a counter

@@ -9,20 +9,20 @@ ghost use Rattle.rules.specs.Platform.{lies_in, valid_address, range_accepted, p
 use crate::numbers::{HARTS, MAX_ASID_WIDTH, MAX_RANGES, MAX_VMID_WIDTH};
 
 // A set of harts as two words of bits: bit h of low is hart h, bit h of high is hart 64 + h.
-#[derive(Drop)]
+#[derive(Clone, Copy)]
 pub struct HartSet {
     pub low: u64,
     pub high: u64,
 }
 
 // The addresses from base to base + length - 1.
-#[derive(Drop)]
+#[derive(Clone, Copy)]
 pub struct Range {
     pub base: u64,
     pub length: u64,
 }
 
-#[derive(Drop)]
+#[derive(Clone, Copy)]
 pub struct Platform {
     pub enabled: HartSet,
     // those with the hypervisor extension

@@ -9,7 +9,7 @@ use crate::numbers::{
 };
 
 // "A hart record holds its state and a sleep note: retentive or not, address, opaque."
-#[derive(Drop)]
+#[derive(Clone, Copy)]
 pub struct Hart {
     pub state: u64,
     pub retentive: bool,
@@ -19,7 +19,7 @@ pub struct Hart {
 
 // A counter: whether it is mapped, to which code, whether it runs, and its value. The code of an
 // unmapped counter is written 0, so that there is one form of unmapped.
-#[derive(Drop)]
+#[derive(Clone, Copy)]
 pub struct Counter {
     pub mapped: bool,
     pub code: u64,
@@ -28,7 +28,7 @@ pub struct Counter {
 }
 
 // The next record of a hart, or that its state does not allow the event.
-#[derive(Drop)]
+#[derive(Clone, Copy)]
 pub enum Next {
     To(Hart),
     Forbidden,

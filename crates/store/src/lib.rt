@@ -1,5 +1,7 @@
 // The table keeping: the hart records and counters of all harts in one lent array of words, a row a
 // hart. What the words mean is the view `seen` of specs/. Assumes nothing.
+#![tactic(auto)]
+
 pub mod rows; // the rows and the places in a row
 pub mod choice; // tests joined, and one of two numbers
 pub mod records; // a hart's record in its row

@@ -1,5 +1,7 @@
 // The table keeping, as the crates above see it: what it does is said through the view `seen` of
 // specs/, and how the tables are held is told to no one. Assumes nothing.
+#![tactic(auto)]
+
 ghost use Rattle.std.specs.Prelude.{◌≡◌, ◌<◌, ◌≤◌};
 ghost use Rattle.rules.specs.Names.{harts, counters, last_code, RESUME_PENDING};
 ghost use Rattle.rules.specs.Platform.{platform_accepted};

@@ -1,0 +1,15 @@
+-- `make_fresh` fills the rows of an accepted platform, whose boot hart is one of them.
+use Rattle.rules.proofs.WellFormed.{platform-agrees, enabled-under}
+use Rattle.store.proofs.BeginningLaws.{fresh_holds}
+use Rattle.std.proofs.Common.{sym, refl, ◌∙◌, rules}
+use borrow.Author.Tests.{not-true, not-false}
+use Rattle.store.proofs.beginning.make_fresh.Goals as goal
+
+pub returns-then-not-accepted : goal.returns-then-not-accepted
+returns-then-not-accepted c = (sym (sym c.accepted.ensures ∙ c.if-not-accepted.true), refl)
+
+pub returns : goal.returns
+returns c =
+    let p = c.args.p in
+    let e = sym c.accepted.ensures ∙ c.if-not-accepted.false in
+    (sym e, rw c.fill.ensures (fresh_holds p (enabled-under p p.boot ((platform-agrees p).0 e).boot)))

@@ -1,0 +1,13 @@
+-- `row_all_mapped` tests the set at once.
+use Rattle.store.proofs.SetLaws.{within-is}
+use Rattle.rules.specs.Counters.{is_mapped}
+use Rattle.store.specs.Rows.{counters_in}
+use Rattle.std.proofs.Common.{ℕ, eqb, ap, ◌∙◌, rules}
+use lib.Bits.{bit_and}
+use Rattle.store.proofs.sets.row_all_mapped.Goals as goal
+
+pub returns : goal.returns
+returns c =
+    let a = c.args in
+    c.within.ensures ∙ ap (λ (m : ℕ). eqb (bit_and (bit_and a.s 255) m) (bit_and a.s 255)) c.mapped_in.ensures
+    ∙ within-is a.s (is_mapped (counters_in a.r.now))

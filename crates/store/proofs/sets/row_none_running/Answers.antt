@@ -1,0 +1,13 @@
+-- `row_none_running` tests the set at once.
+use Rattle.store.proofs.SetLaws.{within-is}
+use Rattle.rules.specs.Counters.{not_running}
+use Rattle.store.specs.Rows.{counters_in}
+use Rattle.std.proofs.Common.{ℕ, eqb, ap, ◌∙◌, rules}
+use lib.Bits.{bit_and}
+use Rattle.store.proofs.sets.row_none_running.Goals as goal
+
+pub returns : goal.returns
+returns c =
+    let a = c.args in
+    c.within.ensures ∙ ap (λ (m : ℕ). eqb (bit_and (bit_and a.s 255) m) (bit_and a.s 255)) c.idle_in.ensures
+    ∙ within-is a.s (not_running (counters_in a.r.now))

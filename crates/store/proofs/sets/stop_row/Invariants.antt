@@ -1,0 +1,12 @@
+-- `stop_row` goes through the counters.
+use Rattle.store.proofs.EachLaws.{up_to, still_kept, alters-more, alters-none}
+use Rattle.store.specs.Rows.{Alters}
+use Rattle.rules.specs.Counters.{ended}
+use Rattle.std.proofs.Common.{◌≡◌, ◌-◌, ◌≤◌, arith, rules}
+use Rattle.store.proofs.sets.stop_row.Given as goal
+
+abbrev pub invariant-loop-i : goal.invariant-loop-i
+invariant-loop-i l = (l.i ≤ 8) × Alters l.initial.r l.r (up_to (ended l.flags) l.s l.i)
+
+abbrev pub decreases-loop-i : goal.decreases-loop-i
+decreases-loop-i l = 8 - l.i
