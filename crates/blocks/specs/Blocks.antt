@@ -6,7 +6,6 @@
 --   record_at ws i     record i of seven
 use Rattle.std.specs.Prelude.{ℕ, zero, suc, ◌+◌, ◌-◌, ◌*◌, ◌%◌, ◌^◌, Bool, ◌&&◌, List, [], ◌∷◌, ◌++◌, ◌==◌, nat_le, nat_lt, slice_index}
 use Rattle.rules.specs.Choice.{if◌then◌else◌}
-use Rattle.rules.specs.declared.answers.Registers.{Registers}
 use Rattle.blocks.specs.declared.Record.{Record}
 use Rattle.blocks.specs.declared.Record.TheVariants.{Unused, Call, Done, Wake, Event, Unknown}
 

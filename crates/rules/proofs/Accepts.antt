@@ -24,7 +24,7 @@ use Rattle.rules.specs.declared.records.Next.{Next}
 use Rattle.rules.specs.declared.records.Next.TheVariants.{To}
 use Rattle.rules.specs.declared.actions.Action.{Action}
 use Rattle.rules.proofs.Logic.{if-false, if-both, by_cases, below_or, and_l, and_r, or_right, not-of}
-use Rattle.rules.proofs.Readings.{Place, off, name, Goes, g-start, g-started, g-suspended, g-wake, g-woken}
+use Rattle.rules.proofs.Readings.{Place, name, Goes, g-start, g-started, g-suspended, g-wake, g-woken}
 use Rattle.rules.proofs.Readings.{g-stopped}
 use Rattle.rules.proofs.Effects.{Stands}
 

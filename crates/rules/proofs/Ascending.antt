@@ -4,13 +4,12 @@
 use mathlib.Core.Bool.{◌||◌, not, Bool, true, ◌&&◌}
 use mathlib.Core.Path.{◌≡◌, refl, sym, ap₂, subst}
 use mathlib.Core.List.{List, [], ◌∷◌, ◌++◌, map, append-nil, Memᴰ}
-use mathlib.Core.Logic.{◌⊎◌, ⊎_elim}
+use mathlib.Core.Logic.{⊎_elim}
 use Prim.Native.Nat.{ℕ, zero, suc, ◌+◌, ◌-◌, ◌<◌, ◌≤◌, zero-le}
 use native.Mathlib.Omega.{arith}
 use lib.Dec.{ltb, leb}
 use borrow.Author.Tests.{leb-true, ltb-true, le-leb, lt-ltb}
 use Rattle.rules.specs.Sets.{every, bit, those, numbers, names, Above, Ascending, keep, all}
-use Rattle.rules.specs.Choice.{if◌then◌else◌}
 use Rattle.rules.proofs.SetLaws.{every-at, every_of, those-in, those-only}
 use Rattle.rules.proofs.Logic.{not-or-inv, not-or, same_test, if-true, if-false, if-both, by_cases, and_l}
 use Rattle.rules.proofs.Logic.{and_r, and-of}

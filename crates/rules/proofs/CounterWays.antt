@@ -6,7 +6,6 @@ use mathlib.Core.Option.{none, some}
 use Prim.Native.Nat.{ℕ, ◌-◌, ◌^◌, ◌<◌, ◌≤◌}
 use lib.ListN.{set}
 use borrow.Author.Tests.{eq-eqb, ne_eqb, le-leb, lt-leb}
-use Rattle.rules.specs.Choice.{if◌then◌else◌}
 use Rattle.rules.specs.Sets.{bit, all}
 use Rattle.rules.specs.Names.{first_event, last_reported, not_reportable, not_supported, invalid_param, already_started}
 use Rattle.rules.specs.Names.{already_stopped, no_shared_memory}

@@ -5,7 +5,6 @@ use mathlib.Core.List.{[], ◌∷◌}
 use Prim.Native.Nat.{ℕ}
 use lib.ListN.{set}
 use borrow.Author.Tests.{eq-eqb, ne_eqb}
-use Rattle.rules.specs.Choice.{if◌then◌else◌}
 use Rattle.rules.specs.Names.{STOPPED, START_PENDING, STOP_PENDING, retentive_type, non_retentive_type, state_forbids}
 use Rattle.rules.specs.Names.{invalid_param, invalid_address, already_available}
 use Rattle.rules.specs.Platform.{enabled, valid_address}

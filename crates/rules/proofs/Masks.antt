@@ -8,7 +8,6 @@ use lib.Dec.{eqb}
 use borrow.Author.Tests.{not-true, eq-eqb, ne_eqb, le-ltb}
 use Rattle.rules.specs.Tables.{state_of}
 use Rattle.rules.specs.Names.{STOP_PENDING, STOPPED, harts, counters}
-use Rattle.rules.specs.Choice.{if◌then◌else◌}
 use Rattle.rules.specs.Sets.{bit, ones, those, numbers, names, Ascending, all}
 use Rattle.rules.specs.Platform.{width, enabled}
 use Rattle.rules.specs.Masks.{selected, selection_fits, is_reached, reached}

@@ -9,7 +9,6 @@ use Rattle.rules.specs.Refusals.{listed-error, no-refusal, RefusalsListed}
 use Rattle.rules.specs.Machine.{call, completion, event, is_short, waking, Operation, hart_of, checked_reply}
 use Rattle.rules.specs.Machine.{reply, after}
 use Rattle.rules.specs.Names.{not_enabled, not_well_formed, short_memory}
-use Rattle.rules.specs.Choice.{if◌then◌else◌}
 use Rattle.rules.specs.Platform.{platform_accepted}
 use Rattle.rules.specs.Tables.{Tables, well_formed, tables_well_formed}
 use Rattle.rules.specs.Replies.{view, Reply, refused, failed, did, accepted, answer_of, actions_of, words_of, laid}

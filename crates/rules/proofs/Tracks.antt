@@ -12,7 +12,7 @@ use Rattle.rules.specs.Names.{STARTED, STOPPED, harts}
 use Rattle.rules.specs.Platform.{enabled}
 use Rattle.rules.specs.Tables.{Tables, idle, hart_at, fresh, TablesWellFormed}
 use Rattle.rules.specs.Replies.{Reply, accepted, commit}
-use Rattle.rules.specs.Machine.{Operation, event, hart_of, after, after_all}
+use Rattle.rules.specs.Machine.{Operation, hart_of, after, after_all}
 use Rattle.rules.specs.Lives.{Event, Mark, ◌named◌, events}
 use Rattle.rules.specs.Rows.{InRow, of_hart, adds, row_of, prior}
 use Rattle.rules.specs.declared.platform.Platform.{Platform}

@@ -1,7 +1,7 @@
 -- THE PROMISES: here, and in Refusals, Deliveries and Counting, stands every statement that is
 -- proved of the rules, each under the sentence it stands for. Read these four files and the
 -- definitions they cite; proofs/Theorems has a theorem of the same name for each.
-use Rattle.std.specs.Prelude.{◌≡◌, true, false, List, [], ◌∷◌, ◌++◌, map, ◌↔◌, ◌%◌, ◌^◌, ℕ, ◌+◌}
+use Rattle.std.specs.Prelude.{◌≡◌, true, false, List, [], ◌∷◌, ◌++◌, map, ◌↔◌, ◌%◌, ◌^◌, ℕ}
 use Rattle.rules.specs.Lives.{suspend, Event, Life, row, events, Reading, placed}
 use Rattle.rules.specs.Names.{STOPPED, SUSPEND_PENDING, non_retentive_type, retentive_type}
 use Rattle.rules.specs.Names.{STARTED, HSM, success}

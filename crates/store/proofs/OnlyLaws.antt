@@ -1,5 +1,5 @@
 -- The view forgets nothing: rows that hold the same tables are the same rows.
-use Rattle.std.proofs.Common.{◌≡◌, ℕ, zero, suc, ◌+◌, ◌-◌, ◌%◌, ◌^◌, ◌<◌, eqb, List, [], get_or, sym, refl, ap, ◌∙◌, subst, mod-lt, arith, lit<, ext_get_or, le-ltb, lt-ltb}
+use Rattle.std.proofs.Common.{◌≡◌, ℕ, zero, suc, ◌+◌, ◌%◌, ◌^◌, ◌<◌, eqb, List, [], get_or, sym, refl, ap, ◌∙◌, subst, mod-lt, arith, lit<, ext_get_or, le-ltb, lt-ltb}
 use Rattle.rules.specs.Tables.{Tables, hart_at, own_at, counter_at}
 use Rattle.rules.specs.declared.records.Hart.{Hart}
 use Rattle.rules.specs.declared.records.Counter.{Counter}

@@ -6,7 +6,7 @@
 --   Startable cs s   each of the counters cs is well formed, and those of the set s are mapped
 --   configure_at      counter i configured
 --   at_one, Kept      a change of one counter of a set; that it keeps the set's well formed
-use Rattle.std.specs.Prelude.{◌≡◌, ℕ, zero, suc, ◌+◌, ◌*◌, ◌<◌, Bool, true, List, set, slice_set}
+use Rattle.std.specs.Prelude.{◌≡◌, ℕ, zero, suc, ◌+◌, ◌*◌, ◌<◌, Bool, true, List, slice_set}
 use Rattle.std.proofs.Math.Option.{Option, none, some}
 use Rattle.rules.specs.Choice.{if◌then◌else◌}
 use Rattle.rules.specs.Names.{counters}

@@ -7,7 +7,7 @@ use rules::platform::{HartSet, Platform, Range};
 use tables::Rows;
 
 // Where the next line goes, how many used records there were, and whether writing still works.
-#[derive(Drop)]
+#[derive(Clone, Copy)]
 pub struct Page {
     pub at: usize,
     pub number: u64,
@@ -69,7 +69,7 @@ fn put_record(page: Page, t: &mut Rows, actions: &mut [u64], out: &mut [u8], x: 
         return page;
     }
     let a = answer(t, actions, x);
-    let number = std::num::wrapping_add_u64(page.number, 1);
+    let number = page.number.wrapping_add(1);
     let at = put_answer(out, page.at, number, a);
     Page {
         at,
@@ -96,12 +96,12 @@ fn put_records(
 }
 
 // Makes room for the lines of a block.
-fn with_room(page: Page, out: &[u8]) -> Page {
+fn with_room<R: Print + Eprint>(rt: &R, page: Page, out: &[u8]) -> Page {
     let at = page.at;
     if at < 64000 {
         return page;
     }
-    let done = flush(out, at);
+    let done = flush(rt, out, at);
     Page {
         at: 0,
         number: page.number,
@@ -110,14 +110,15 @@ fn with_room(page: Page, out: &[u8]) -> Page {
 }
 
 // Answers a block: its records, or H8.
-pub fn put_block(
+pub fn put_block<R: Print + Eprint>(
+    rt: &R,
     page: Page,
     t: &mut Rows,
     actions: &mut [u64],
     out: &mut [u8],
     block: &Block,
 ) -> Page {
-    let next = with_room(page, out);
+    let next = with_room(rt, page, out);
     if blocks::check(block) {
         return put_records(next, t, actions, out, block);
     }

@@ -1,8 +1,8 @@
 // What is printed: a line for each used record, gathered in a buffer.
 ghost use Rattle.std.specs.Prelude.{◌+◌, ◌≤◌};
 
-use libc::STDOUT_FILENO;
 use rules::answers::{Answer, register};
+use std::io::Error;
 
 // A byte at the next place; none where the buffer is full.
 fn put_byte(out: &mut [u8], at: usize, b: u8) -> usize {
@@ -34,7 +34,7 @@ fn put_error(out: &mut [u8], at: usize, error: i64) -> usize {
     let a0 = register(error);
     if error < 0 {
         let next = put_byte(out, at, b'-');
-        return put_number(out, next, std::num::wrapping_add_u64(u64::MAX - a0, 1));
+        return put_number(out, next, (u64::MAX - a0).wrapping_add(1));
     }
     put_number(out, at, a0)
 }
@@ -82,15 +82,22 @@ pub fn put_short(out: &mut [u8], at: usize) -> usize {
     put_byte(out, next, b'\n')
 }
 
-// Writes what is gathered; false if that fails.
-pub fn flush(out: &[u8], at: usize) -> bool {
-    let done = if at <= out.len() {
-        io::write_all(STDOUT_FILENO, &out[..at])
-    } else {
-        io::write_all(STDOUT_FILENO, out)
-    };
-    if !done {
-        os::fail(b"write");
+// Writes what is gathered. Where that fails it says so on standard error, and is false.
+pub fn flush<R: Print + Eprint>(rt: &R, out: &[u8], at: usize) -> bool {
+    let text = if at <= out.len() { &out[..at] } else { out };
+    match rt.write_all(text) {
+        Ok(()) => true,
+        Err(error) => {
+            complain(rt, "write", error);
+            false
+        }
     }
-    done
+}
+
+// Says on standard error what failed and why; nothing more can be done where that fails too.
+pub fn complain<R: Eprint>(rt: &R, what: &str, error: Error) {
+    match eprintln!(rt; "{what}: {error}") {
+        Ok(()) => (),
+        Err(_) => (),
+    }
 }

@@ -1,7 +1,6 @@
 -- `check_all`: at the head of the loop the total is that of the first i words, modulo 2^64.
-use Rattle.std.proofs.Common.{◌≡◌, ℕ, ◌+◌, ◌-◌, ◌*◌, ◌%◌, ◌^◌, ◌<◌, ◌≤◌, eqb, List, [], ◌∷◌, ◌++◌, length, get_or, take, sym, refl, ap, ◌∙◌, add-zero, add-one, arith, take_all, take-suc, rules}
-use Rattle.blocks.specs.Blocks.{sum, passes}
-use native.Mathlib.Nat.{mod-add-mod}
+use Rattle.std.proofs.Common.{◌≡◌, ℕ, ◌+◌, ◌-◌, ◌%◌, ◌^◌, ◌<◌, ◌≤◌, List, [], ◌∷◌, ◌++◌, length, get_or, take, ap, ◌∙◌, add-zero, add-one, arith, take-suc}
+use Rattle.blocks.specs.Blocks.{sum}
 use Rattle.blocks.proofs.check_all.Given as goal
 
 sum-append : (a b : List ℕ) → sum (a ++ b) ≡ sum a + sum b

@@ -1,5 +1,5 @@
 -- `is_kind`: the kind's number, and a hart number up to 127 above it.
-use Rattle.std.proofs.Common.{◌≡◌, sym, refl, ap, ◌∙◌, rules, le-leb}
+use Rattle.std.proofs.Common.{refl, le-leb}
 use borrow.Author.Tests.{lt-leb}
 use Rattle.blocks.proofs.is_kind.Goals as goal
 

@@ -1,6 +1,6 @@
 -- `read_into`: at the head of the loop the first i words are read.
-use Rattle.std.proofs.Common.{◌≡◌, ℕ, ◌+◌, ◌-◌, ◌*◌, ◌%◌, ◌^◌, ◌≤◌, List, [], ◌∷◌, ◌++◌, length, take, set, sym, refl, ap, ◌∙◌, add-one, arith, length-set, take_all, take-suc-set, rules}
-use Rattle.blocks.specs.Blocks.{word_at, words_at}
+use Rattle.std.proofs.Common.{◌≡◌, ◌-◌, ◌≤◌, length, take}
+use Rattle.blocks.specs.Blocks.{words_at}
 use Rattle.blocks.proofs.read_into.Given as goal
 
 abbrev pub invariant-loop-i : goal.invariant-loop-i

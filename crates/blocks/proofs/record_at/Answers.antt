@@ -1,6 +1,5 @@
 -- `record_at` reads the nine words of a record.
 use Rattle.blocks.specs.Blocks.{record_at}
-use Rattle.std.proofs.Common.{◌≡◌, sym, refl, ap, ◌∙◌, rules}
 use Rattle.blocks.proofs.record_at.Goals as goal
 
 pub returns : goal.returns

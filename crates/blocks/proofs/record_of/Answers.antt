@@ -2,7 +2,7 @@
 use Rattle.blocks.specs.Blocks.{record_of}
 use Rattle.rules.proofs.Logic.{and_l}
 use Rattle.rules.specs.Choice.{if◌then◌else◌}
-use Rattle.std.proofs.Common.{◌≡◌, sym, refl, ap, ◌∙◌, rules, eq-eqb, ne_eqb, leb-true}
+use Rattle.std.proofs.Common.{sym, refl, ◌∙◌, eq-eqb, ne_eqb, leb-true}
 use Rattle.blocks.proofs.record_of.Goals as goal
 
 pub returns-then-first-eq0 : goal.returns-then-first-eq0

@@ -2,7 +2,6 @@
 use mathlib.Core.Bool.{false}
 use mathlib.Core.Path.{ap, ◌∙◌}
 use Prim.Native.Nat.{ℕ}
-use borrow.Author.Rules.{rules}
 use Rattle.rules.specs.Machine.{plain_reply}
 use Rattle.rules.specs.Names.{success, not_supported}
 use Rattle.rules.specs.Replies.{view}

@@ -1,8 +1,7 @@
 -- `call` on well-formed tables: H4, H2, H3, then the request.
 use mathlib.Core.Path.{sym, ap, ◌∙◌}
 use lib.ListN.{length}
-use borrow.Author.Rules.{rules}
-use borrow.Author.Tests.{lt-ltb, le-ltb, not-true, not-false}
+use borrow.Author.Tests.{lt-ltb, le-ltb}
 use Rattle.rules.specs.Machine.{call}
 use Rattle.rules.specs.Names.{not_enabled, not_started, short_memory}
 use Rattle.rules.specs.declared.records.Hart.{Hart}

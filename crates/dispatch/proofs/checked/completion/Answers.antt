@@ -1,8 +1,7 @@
 -- `completion` on well-formed tables: H4, H2, then done.
 use mathlib.Core.Path.{sym, ◌∙◌}
 use lib.ListN.{length}
-use borrow.Author.Rules.{rules}
-use borrow.Author.Tests.{lt-ltb, le-ltb, not-true, not-false}
+use borrow.Author.Tests.{lt-ltb, le-ltb}
 use Rattle.rules.specs.Machine.{completion}
 use Rattle.rules.specs.Names.{not_enabled, short_memory}
 use Rattle.dispatch.proofs.MeetsLaws.{refusing, by}

@@ -2,8 +2,6 @@
 use mathlib.Core.List.{map}
 use mathlib.Core.Path.{refl, sym, ◌∙◌}
 use native.Mathlib.Omega.{arith}
-use borrow.Author.Rules.{rules}
-use borrow.Author.Tests.{not-true, not-false}
 use Rattle.rules.specs.Machine.{event}
 use Rattle.rules.specs.Names.{not_enabled, not_reportable}
 use Rattle.rules.specs.Replies.{view, count_at, counted}

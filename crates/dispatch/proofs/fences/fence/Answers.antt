@@ -1,10 +1,9 @@
 -- `fence` makes its checks in order, then lays one action for each reached hart and tells it.
 use mathlib.Core.List.{List, map}
 use mathlib.Core.Path.{◌≡◌, sym, ap, ◌∙◌}
-use Prim.Native.Nat.{ℕ, ◌+◌, ◌-◌}
+use Prim.Native.Nat.{ℕ, ◌+◌}
 use lib.ListN.{length}
 use borrow.Author.Rules.{rules}
-use borrow.Author.Tests.{not-true, not-false}
 use Rattle.rules.specs.Fences.{sent_code}
 use Rattle.rules.specs.Masks.{reached, reaches, action_for}
 use Rattle.rules.specs.Names.{harts, not_supported, invalid_param, invalid_address, fence_kind}

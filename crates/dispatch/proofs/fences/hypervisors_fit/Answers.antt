@@ -1,8 +1,6 @@
 -- `hypervisors_fit` asks each hart for FID 3 to 6.
 use mathlib.Core.Path.{sym, ◌∙◌}
-use borrow.Author.Rules.{rules}
 use borrow.Author.Tests.{le-leb, lt-leb}
-use Rattle.rules.specs.Choice.{if◌then◌else◌}
 use Rattle.rules.proofs.Logic.{if-true, if-false}
 use Rattle.rules.proofs.ReachWays.{hypervisors-by-hart}
 use Rattle.dispatch.proofs.fences.hypervisors_fit.Goals as goal

@@ -1,6 +1,5 @@
 -- `ipi` chooses by the function.
 use mathlib.Core.Path.{ap}
-use borrow.Author.Rules.{rules}
 use Rattle.rules.specs.Machine.{plain_reply}
 use Rattle.rules.specs.Names.{not_supported}
 use Rattle.rules.specs.Replies.{view, plain}

@@ -1,10 +1,9 @@
 -- `is_below`: the bits past the width are all clear.
 use mathlib.Core.Path.{◌≡◌, sym}
-use Prim.Native.Nat.{ℕ, ◌-◌, ◌*◌, ◌≤◌, ◌<◌, ◌^◌, ◌/◌}
+use Prim.Native.Nat.{ℕ, ◌*◌, ◌≤◌, ◌<◌, ◌^◌, ◌/◌}
 use native.Mathlib.Nat.{one-le-pow, div-lt_iff_lt-mul, div-eq_of_lt, pow-le-pow_right}
 use native.Mathlib.Omega.{arith}
 use lib.Dec.{eqb, ltb}
-use borrow.Author.Rules.{rules}
 use borrow.Author.Tests.{eq-eqb, eqb-true, lt-ltb, ltb-true}
 use Rattle.rules.proofs.Logic.{same_test}
 use Rattle.dispatch.proofs.fences.is_below.Goals as goal

@@ -1,7 +1,6 @@
 -- `rfence` chooses by the function.
 use mathlib.Core.Path.{sym, ap, ◌∙◌}
 use native.Mathlib.Omega.{arith}
-use borrow.Author.Rules.{rules}
 use Rattle.rules.specs.Fences.{fence_reply}
 use Rattle.rules.specs.Machine.{plain_reply}
 use Rattle.rules.specs.Names.{not_supported}
@@ -12,7 +11,6 @@ use Rattle.rules.specs.declared.actions.Action.{Action}
 use Rattle.dispatch.proofs.ChoiceLaws.{id-small}
 use Rattle.dispatch.proofs.MeetsLaws.{plain-failing, by}
 use Rattle.rules.proofs.RequestWays.{fence-0, fence-with-id, fence-with-range, fence-unknown}
-use Rattle.rules.proofs.actions.Action.fence.Reads as actions-Action-fence-reads
 use Rattle.dispatch.proofs.fences.rfence.Goals as goal
 
 pub fence-requires-then-fid-eq0 : goal.fence-requires-then-fid-eq0

@@ -1,7 +1,5 @@
 -- `event`: H1, then what is left on well-formed tables.
 use mathlib.Core.Path.{sym, ◌∙◌}
-use borrow.Author.Rules.{rules}
-use borrow.Author.Tests.{not-true, not-false}
 use Rattle.rules.specs.Machine.{event}
 use Rattle.rules.specs.Names.{not_well_formed}
 use Rattle.rules.specs.Platform.{platform_accepted}

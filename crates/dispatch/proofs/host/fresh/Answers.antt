@@ -1,6 +1,5 @@
 -- `fresh`: the platform decides.
 use mathlib.Core.Path.{◌≡◌, refl, sym, ◌∙◌}
-use borrow.Author.Rules.{rules}
 use mathlib.Core.Bool.{true, false}
 use Rattle.rules.specs.Choice.{if◌then◌else◌}
 use Rattle.rules.specs.Names.{success, not_well_formed}

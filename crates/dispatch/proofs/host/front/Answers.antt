@@ -1,11 +1,10 @@
 -- `front` hands back as many words as the answer tells of.
 use mathlib.Core.List.{List}
 use mathlib.Core.Path.{◌≡◌, refl, sym, ap, ◌∙◌}
-use Prim.Native.Nat.{ℕ, ◌-◌, ◌*◌, min}
+use Prim.Native.Nat.{ℕ, ◌*◌, min}
 use native.Mathlib.Omega.{arith}
 use lib.ListN.{length, take}
 use lib.Seq.{take_all, take-length, length-take-le}
-use borrow.Author.Rules.{rules}
 use Rattle.rules.proofs.Logic.{below_or}
 use Rattle.dispatch.specs.Meets.{count_in}
 use Rattle.dispatch.proofs.host.front.Goals as goal

@@ -1,8 +1,6 @@
 -- `front_length`: five words for each action, and no more than there are.
 use mathlib.Core.Path.{ap}
-use Prim.Native.Nat.{◌-◌}
 use native.Mathlib.Omega.{arith}
-use borrow.Author.Rules.{rules}
 use Rattle.dispatch.specs.Meets.{count_in}
 use Rattle.dispatch.proofs.host.front_length.Goals as goal
 

@@ -1,6 +1,5 @@
 -- `is_well_formed`: the platform passes and the tables do.
 use mathlib.Core.Path.{refl, sym, ◌∙◌}
-use borrow.Author.Rules.{rules}
 use Rattle.rules.specs.Tables.{well_formed}
 use Rattle.dispatch.proofs.host.is_well_formed.Goals as goal
 

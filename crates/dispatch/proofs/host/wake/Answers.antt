@@ -1,8 +1,6 @@
 -- `wake`: H1, then what is left on well-formed tables.
 use mathlib.Core.Path.{sym, ◌∙◌}
 use lib.ListN.{length}
-use borrow.Author.Rules.{rules}
-use borrow.Author.Tests.{not-true, not-false}
 use Rattle.rules.specs.Machine.{waking}
 use Rattle.rules.specs.Names.{not_well_formed}
 use Rattle.rules.specs.Platform.{platform_accepted}

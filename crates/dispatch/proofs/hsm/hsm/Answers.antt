@@ -1,6 +1,5 @@
 -- `hsm` chooses by the function.
 use mathlib.Core.Path.{refl, ap}
-use borrow.Author.Rules.{rules}
 use Rattle.rules.specs.Machine.{life_reply, plain_reply, request_reply}
 use Rattle.rules.specs.Names.{not_supported}
 use Rattle.rules.specs.Replies.{view}

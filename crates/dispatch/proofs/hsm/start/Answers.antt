@@ -3,8 +3,6 @@ use mathlib.Core.Bool.{false}
 use mathlib.Core.List.{[], ◌∷◌}
 use mathlib.Core.Path.{◌≡◌, sym, ap, ◌∙◌}
 use native.Mathlib.Omega.{arith}
-use borrow.Author.Rules.{rules}
-use borrow.Author.Tests.{not-true, not-false}
 use Rattle.rules.specs.Names.{START_PENDING, invalid_param, invalid_address, already_available}
 use Rattle.rules.specs.Replies.{view, enter}
 use Rattle.rules.specs.Tables.{hart_at, in_state}

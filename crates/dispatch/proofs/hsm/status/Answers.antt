@@ -1,8 +1,6 @@
 -- `status` reads the target's record.
 use mathlib.Core.Bool.{false}
 use mathlib.Core.Path.{sym, ap, ◌∙◌}
-use borrow.Author.Rules.{rules}
-use borrow.Author.Tests.{not-true, not-false}
 use Rattle.rules.specs.Names.{success, invalid_param}
 use Rattle.rules.specs.Replies.{view}
 use Rattle.rules.specs.declared.answers.Answer.TheVariants.{Pair}

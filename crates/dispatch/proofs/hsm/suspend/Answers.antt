@@ -5,8 +5,6 @@ use mathlib.Core.Path.{refl, sym, ap, ◌∙◌}
 use Prim.Native.Nat.{ℕ, ◌≤◌}
 use native.Mathlib.Omega.{arith}
 use borrow.Author.Rules.{rules}
-use borrow.Author.Tests.{not-true, not-false}
-use Rattle.rules.specs.Choice.{if◌then◌else◌}
 use Rattle.rules.specs.Harts.{suspend_of}
 use Rattle.rules.specs.Names.{RESUME_PENDING, invalid_param, invalid_address}
 use Rattle.rules.specs.Replies.{view, words_of, laid}

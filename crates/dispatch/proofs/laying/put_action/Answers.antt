@@ -1,7 +1,6 @@
 -- `put_action`: five stores are one action.
 use native.Mathlib.Omega.{arith}
 use lib.ListN.{length-set}
-use borrow.Author.Rules.{rules}
 use Rattle.dispatch.proofs.LayingLaws.{stores}
 use Rattle.dispatch.proofs.laying.put_action.Goals as goal
 

@@ -1,13 +1,7 @@
 -- `all_hypervisors` asks each hart.
-use mathlib.Core.Bool.{true, not, ◌||◌}
 use mathlib.Core.Path.{◌≡◌, sym, ◌∙◌}
-use Prim.Native.Nat.{◌≤◌, ◌-◌}
 use native.Mathlib.Omega.{arith}
 use borrow.Author.Rules.{rules}
-use borrow.Author.Tests.{not-true, not-false}
-use Rattle.rules.specs.Masks.{selects}
-use Rattle.rules.specs.Platform.{hypervisor}
-use Rattle.rules.specs.Sets.{every}
 use Rattle.rules.proofs.Logic.{and-of}
 use Rattle.rules.proofs.SetLaws.{every-none, every_more, every-fails}
 use Rattle.dispatch.proofs.masks.all_hypervisors.Goals as goal

@@ -1,6 +1,5 @@
 -- `hypervisor_fits` asks the extension of a selected hart alone.
 use mathlib.Core.Path.{refl, sym, ◌∙◌}
-use borrow.Author.Rules.{rules}
 use Rattle.dispatch.proofs.masks.hypervisor_fits.Goals as goal
 
 pub returns-then-is_selected : goal.returns-then-is_selected

@@ -1,6 +1,5 @@
 -- `is_reached` asks the hart's state.
 use mathlib.Core.Path.{refl, sym, ap, ◌∙◌}
-use borrow.Author.Rules.{rules}
 use borrow.Author.Tests.{eq-eqb, ne_eqb}
 use Rattle.rules.specs.Masks.{is_reached}
 use Rattle.rules.specs.declared.records.Hart.{Hart}

@@ -1,6 +1,5 @@
 -- `is_selected` asks base and mask of one hart.
 use mathlib.Core.Path.{refl}
-use borrow.Author.Rules.{rules}
 use borrow.Author.Tests.{eq-eqb, ne_eqb, lt-leb, le-leb, lt-ltb, le-ltb}
 use Rattle.rules.specs.Choice.{if◌then◌else◌}
 use Rattle.rules.specs.Masks.{selects}

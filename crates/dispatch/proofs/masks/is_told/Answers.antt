@@ -1,6 +1,5 @@
 -- `is_told`: selected, then reached.
 use mathlib.Core.Path.{refl, sym, ◌∙◌}
-use borrow.Author.Rules.{rules}
 use Rattle.rules.specs.Masks.{reaches}
 use Rattle.dispatch.proofs.masks.is_told.Goals as goal
 

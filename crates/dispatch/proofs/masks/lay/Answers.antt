@@ -1,13 +1,11 @@
 -- `lay`: at the head of the loop the actions for the harts below h are laid.
-use mathlib.Core.Logic.{⊎_elim}
 use mathlib.Core.Path.{◌≡◌, sym, ◌∙◌}
-use Prim.Native.Nat.{◌-◌, ◌≤◌}
 use native.Mathlib.Omega.{arith}
 use borrow.Author.Rules.{rules}
 use Rattle.rules.specs.Masks.{reaches}
 use Rattle.rules.specs.Names.{harts}
 use Rattle.tables.specs.Keeping.{seen}
-use Rattle.dispatch.proofs.LayingLaws.{Laying, laying-starts, laying-hit, laying-miss}
+use Rattle.dispatch.proofs.LayingLaws.{laying-starts, laying-hit, laying-miss}
 use Rattle.dispatch.proofs.masks.lay.Goals as goal
 use Rattle.dispatch.proofs.masks.lay.Goals.{then-is_told, else-is_told}
 
@@ -40,7 +38,7 @@ loop-h-preserved c =
     let w = l.invariant.1 in (
       search rules,
       elim c.if-is_told.branch [
-        then-is_told d ↦ rw (d.out-is ∙ d.put_action.ensures, d.n-is)
+        | then-is_told d ↦ rw (d.out-is ∙ d.put_action.ensures, d.n-is)
             (laying-hit _ _ _ _ f _ l.out l.n l.h w (g ∙ d.if-is_told.true) (omega arith))
         | else-is_told d ↦ rw (d.out-is, d.n-is) (laying-miss _ _ _ _ f _ l.out l.n l.h w (g ∙ d.if-is_told.false))
       ],
@@ -52,4 +50,3 @@ returns c =
     let e : l.h ≡ harts = omega arith in
     let w = rw e at l.invariant.1 in
     (w.count, w.is)
-

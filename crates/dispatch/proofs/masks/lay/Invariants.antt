@@ -1,13 +1,9 @@
 -- `lay`: at the head of the loop the actions for the harts below h are laid.
-use mathlib.Core.Logic.{⊎_elim}
-use mathlib.Core.Path.{◌≡◌, sym, ◌∙◌}
 use Prim.Native.Nat.{◌-◌, ◌≤◌}
-use native.Mathlib.Omega.{arith}
-use borrow.Author.Rules.{rules}
 use Rattle.rules.specs.Masks.{reaches}
 use Rattle.rules.specs.Names.{harts}
 use Rattle.tables.specs.Keeping.{seen}
-use Rattle.dispatch.proofs.LayingLaws.{Laying, laying-starts, laying-hit, laying-miss}
+use Rattle.dispatch.proofs.LayingLaws.{Laying}
 use Rattle.dispatch.proofs.masks.lay.Given as goal
 
 abbrev pub invariant-loop-h : goal.invariant-loop-h

@@ -1,12 +1,7 @@
 -- `selection_fits` asks each bit; the base that means all selects enabled harts alone.
-use mathlib.Core.Bool.{true}
 use mathlib.Core.Path.{◌≡◌, sym, ◌∙◌}
-use Prim.Native.Nat.{◌≤◌, ◌-◌}
 use native.Mathlib.Omega.{arith}
 use borrow.Author.Rules.{rules}
-use borrow.Author.Tests.{not-true, not-false}
-use Rattle.rules.specs.Masks.{bit_fits}
-use Rattle.rules.specs.Sets.{every}
 use Rattle.rules.proofs.Logic.{and-of}
 use Rattle.rules.proofs.ReachWays.{fits-everyone, fits-every}
 use Rattle.rules.proofs.SetLaws.{every-none, every_more, every-fails}

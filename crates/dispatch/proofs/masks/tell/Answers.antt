@@ -1,16 +1,12 @@
 -- `tell`: at the head of the loop the harts below h are told.
-use mathlib.Core.Logic.{⊎_elim}
 use mathlib.Core.Path.{◌≡◌, sym, ap, ◌∙◌}
-use Prim.Native.Nat.{◌-◌, ◌≤◌}
 use native.Mathlib.Omega.{arith}
 use borrow.Author.Rules.{rules}
 use Rattle.rules.specs.Masks.{reaches}
 use Rattle.rules.specs.Names.{harts}
-use Rattle.rules.specs.Sets.{those}
 use Rattle.rules.specs.Tables.{Tables}
-use Rattle.tables.specs.Keeping.{seen, Holds}
+use Rattle.tables.specs.Keeping.{seen}
 use Rattle.dispatch.proofs.TellingLaws.{telling-starts, telling-hit, telling-miss}
-use Rattle.dispatch.specs.Meets.{told}
 use Rattle.dispatch.proofs.masks.tell.Goals as goal
 use Rattle.dispatch.proofs.masks.tell.Goals.{then-is_told, else-is_told}
 
@@ -44,7 +40,7 @@ loop-h-preserved c =
     w.is) in (
       search rules,
       elim c.if-is_told.branch [
-        then-is_told d ↦ rw d.t-is (telling-hit s a.caller a.code f l.t l.h w _ (g ∙ d.if-is_told.true) d.tell_one.ensures)
+        | then-is_told d ↦ rw d.t-is (telling-hit s a.caller a.code f l.t l.h w _ (g ∙ d.if-is_told.true) d.tell_one.ensures)
         | else-is_told d ↦ rw d.t-is (telling-miss s a.caller a.code f l.t l.h w (g ∙ d.if-is_told.false))
       ],
     )

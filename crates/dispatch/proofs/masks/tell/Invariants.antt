@@ -1,15 +1,9 @@
 -- `tell`: at the head of the loop the harts below h are told.
-use mathlib.Core.Logic.{⊎_elim}
-use mathlib.Core.Path.{◌≡◌, sym, ap, ◌∙◌}
 use Prim.Native.Nat.{◌-◌, ◌≤◌}
-use native.Mathlib.Omega.{arith}
-use borrow.Author.Rules.{rules}
 use Rattle.rules.specs.Masks.{reaches}
 use Rattle.rules.specs.Names.{harts}
 use Rattle.rules.specs.Sets.{those}
-use Rattle.rules.specs.Tables.{Tables}
 use Rattle.tables.specs.Keeping.{seen, Holds}
-use Rattle.dispatch.proofs.TellingLaws.{telling-starts, telling-hit, telling-miss}
 use Rattle.dispatch.specs.Meets.{told}
 use Rattle.dispatch.proofs.masks.tell.Given as goal
 

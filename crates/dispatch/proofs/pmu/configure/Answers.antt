@@ -1,7 +1,6 @@
 -- `configure` makes its checks in order, then configures the counter that matches.
 use mathlib.Core.Path.{sym, ◌∙◌}
 use borrow.Author.Rules.{rules}
-use borrow.Author.Tests.{not-true, not-false}
 use Rattle.rules.specs.Names.{invalid_param, not_supported}
 use Rattle.rules.specs.Replies.{view}
 use Rattle.dispatch.proofs.CounterSetLaws.{event-from, event-to, chosen-some, chosen_none}

@@ -1,5 +1,4 @@
 -- `details` asks the number alone.
-use borrow.Author.Rules.{rules}
 use Rattle.rules.specs.Names.{invalid_param}
 use Rattle.dispatch.proofs.CounterSetLaws.{is-counter, no-counter}
 use Rattle.dispatch.proofs.MeetsLaws.{plain-failing, plain-giving}

@@ -1,9 +1,8 @@
 -- `pmu` chooses by the function.
 use mathlib.Core.List.{List}
 use mathlib.Core.Path.{◌≡◌, refl}
-use Prim.Native.Nat.{ℕ, ◌<◌, ◌≤◌, zero-le}
+use Prim.Native.Nat.{ℕ, ◌<◌}
 use native.Mathlib.Omega.{arith}
-use borrow.Author.Rules.{rules}
 use Rattle.rules.specs.Machine.{plain_reply}
 use Rattle.rules.specs.Names.{not_supported}
 use Rattle.rules.specs.Replies.{view, plain}

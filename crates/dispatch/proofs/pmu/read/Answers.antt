@@ -1,7 +1,6 @@
 -- `read` asks the number, then whether the counter is mapped.
 use mathlib.Core.Bool.{false}
 use mathlib.Core.Path.{ap, ◌∙◌}
-use borrow.Author.Rules.{rules}
 use borrow.Author.Tests.{not-true, not-false}
 use Rattle.rules.specs.Names.{success, invalid_param}
 use Rattle.rules.specs.Replies.{view}

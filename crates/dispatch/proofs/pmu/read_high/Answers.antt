@@ -1,8 +1,7 @@
 -- `read_high` asks the number, then whether the counter is mapped.
 use mathlib.Core.Path.{◌∙◌}
-use borrow.Author.Rules.{rules}
 use borrow.Author.Tests.{not-true, not-false}
-use Rattle.rules.specs.Names.{success, invalid_param}
+use Rattle.rules.specs.Names.{invalid_param}
 use Rattle.rules.specs.Replies.{view}
 use Rattle.dispatch.proofs.CounterSetLaws.{over-unread, mapped-read}
 use Rattle.dispatch.proofs.MeetsLaws.{plain-failing, plain-giving}

@@ -1,7 +1,5 @@
 -- `start_counters` makes its checks in order, then starts the set.
 use mathlib.Core.Path.{sym, ◌∙◌}
-use borrow.Author.Rules.{rules}
-use borrow.Author.Tests.{not-true, not-false}
 use Rattle.rules.specs.Names.{invalid_param, no_shared_memory, already_started}
 use Rattle.rules.specs.Replies.{view}
 use Rattle.dispatch.proofs.CounterSetLaws.{all-by}

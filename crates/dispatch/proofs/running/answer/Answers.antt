@@ -1,6 +1,5 @@
 -- `answer` chooses by the extension.
 use mathlib.Core.Path.{refl, ap}
-use borrow.Author.Rules.{rules}
 use Rattle.rules.specs.Machine.{plain_reply, request_reply}
 use Rattle.rules.specs.Names.{not_supported}
 use Rattle.rules.specs.Replies.{view}

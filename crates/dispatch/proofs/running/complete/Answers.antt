@@ -2,7 +2,6 @@
 use mathlib.Core.Bool.{false}
 use mathlib.Core.List.{[]}
 use mathlib.Core.Path.{refl, sym, ap, ◌∙◌}
-use borrow.Author.Rules.{rules}
 use Rattle.rules.specs.Harts.{done_of}
 use Rattle.rules.specs.Names.{state_forbids}
 use Rattle.rules.specs.Replies.{view, words_of, laid}

@@ -2,12 +2,10 @@
 use mathlib.Core.Bool.{true, false}
 use mathlib.Core.List.{List, [], ◌∷◌}
 use mathlib.Core.Path.{◌≡◌, refl, sym, ap, ◌∙◌}
-use Prim.Native.Nat.{ℕ, ◌-◌}
+use Prim.Native.Nat.{ℕ}
 use native.Mathlib.Omega.{arith}
 use lib.Dec.{eqb}
 use lib.ListN.{set}
-use borrow.Author.Rules.{rules}
-use Rattle.rules.specs.Choice.{if◌then◌else◌}
 use Rattle.rules.specs.Harts.{wake_of, wake_actions}
 use Rattle.rules.specs.Names.{SUSPENDED, RESUME_PENDING, state_forbids}
 use Rattle.rules.specs.Replies.{view, moves, enter, words_of, laid}

@@ -1,6 +1,5 @@
 -- `sent_code` reads the constant table, which is the rule's, and gives its default past the end.
 use Rattle.rules.specs.Fences.{sent_codes, sent_code}
-use borrow.Author.Rules.{rules}
 use lib.ListN.{get_or-eq_default}
 use mathlib.Core.Path.{refl, sym}
 use Rattle.rules.proofs.actions.sent_code.Goals as goal

@@ -2,12 +2,11 @@
 use Rattle.rules.specs.Platform.{range_accepted}
 use Rattle.rules.proofs.Logic.{below_or}
 use Rattle.rules.proofs.platform.RangeLaws.{looked, all-miss, all-each}
-use Prim.Native.Nat.{ℕ, ◌≤◌, ◌<◌, ◌-◌}
+use Prim.Native.Nat.{ℕ}
 use lib.ListN.{get_or, length}
 use mathlib.Core.Bool.{true}
 use mathlib.Core.Path.{◌≡◌, sym, ◌∙◌, subst}
 use native.Mathlib.Omega.{arith}
-use borrow.Author.Tests.{not-true, not-false}
 use borrow.Author.Rules.{rules}
 use Rattle.rules.proofs.platform.all_accepted.Goals as goal
 

@@ -1,14 +1,9 @@
 -- `all_accepted` asks one used range after the other.
 use Rattle.rules.specs.Platform.{range_accepted}
-use Rattle.rules.proofs.Logic.{below_or}
-use Rattle.rules.proofs.platform.RangeLaws.{looked, all-miss, all-each}
 use Prim.Native.Nat.{ℕ, ◌≤◌, ◌<◌, ◌-◌}
-use lib.ListN.{get_or, length}
+use lib.ListN.{get_or}
 use mathlib.Core.Bool.{true}
-use mathlib.Core.Path.{◌≡◌, sym, ◌∙◌, subst}
-use native.Mathlib.Omega.{arith}
-use borrow.Author.Tests.{not-true, not-false}
-use borrow.Author.Rules.{rules}
+use mathlib.Core.Path.{◌≡◌}
 use Rattle.rules.proofs.platform.all_accepted.Given as goal
 
 abbrev pub invariant-loop-i : goal.invariant-loop-i

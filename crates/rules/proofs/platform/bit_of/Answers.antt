@@ -1,6 +1,5 @@
 -- `bit_of` shifts bit i down to the unit's place.
 use Rattle.rules.specs.Sets.{bit}
-use borrow.Author.Rules.{rules}
 use mathlib.Core.Path.{refl}
 use Rattle.rules.proofs.platform.bit_of.Goals as goal
 

@@ -2,7 +2,7 @@
 use Rattle.rules.specs.Platform.{lies_in}
 use Rattle.rules.proofs.Logic.{below_or}
 use Rattle.rules.proofs.platform.RangeLaws.{looked, any-hit, any_none}
-use Prim.Native.Nat.{ℕ, ◌≤◌, ◌<◌, ◌-◌}
+use Prim.Native.Nat.{ℕ}
 use lib.ListN.{get_or, length}
 use mathlib.Core.Bool.{false}
 use mathlib.Core.Path.{◌≡◌, sym, ◌∙◌, subst}

@@ -1,13 +1,9 @@
 -- `lies_in_one` asks one used range after the other.
 use Rattle.rules.specs.Platform.{lies_in}
-use Rattle.rules.proofs.Logic.{below_or}
-use Rattle.rules.proofs.platform.RangeLaws.{looked, any-hit, any_none}
 use Prim.Native.Nat.{ℕ, ◌≤◌, ◌<◌, ◌-◌}
-use lib.ListN.{get_or, length}
+use lib.ListN.{get_or}
 use mathlib.Core.Bool.{false}
-use mathlib.Core.Path.{◌≡◌, sym, ◌∙◌, subst}
-use native.Mathlib.Omega.{arith}
-use borrow.Author.Rules.{rules}
+use mathlib.Core.Path.{◌≡◌}
 use Rattle.rules.proofs.platform.lies_in_one.Given as goal
 
 abbrev pub invariant-loop-i : goal.invariant-loop-i

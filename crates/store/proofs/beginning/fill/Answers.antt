@@ -1,6 +1,6 @@
 -- `fill` fills one row after the other.
-use Rattle.store.proofs.BeginningLaws.{Filled, filled_none, filled_more, filled-all}
-use Rattle.std.proofs.Common.{◌≡◌, ◌-◌, ◌≤◌, sym, ◌∙◌, arith, rules}
+use Rattle.store.proofs.BeginningLaws.{filled_none, filled_more, filled-all}
+use Rattle.std.proofs.Common.{◌≡◌, arith, rules}
 use Rattle.store.proofs.beginning.fill.Goals as goal
 
 pub loop-h-init : goal.loop-h-init

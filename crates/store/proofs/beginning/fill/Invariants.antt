@@ -1,6 +1,6 @@
 -- `fill` fills one row after the other.
-use Rattle.store.proofs.BeginningLaws.{Filled, filled_none, filled_more, filled-all}
-use Rattle.std.proofs.Common.{◌≡◌, ◌-◌, ◌≤◌, sym, ◌∙◌, arith, rules}
+use Rattle.store.proofs.BeginningLaws.{Filled}
+use Rattle.std.proofs.Common.{◌-◌, ◌≤◌}
 use Rattle.store.proofs.beginning.fill.Given as goal
 
 abbrev pub invariant-loop-h : goal.invariant-loop-h

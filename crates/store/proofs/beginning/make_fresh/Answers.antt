@@ -1,8 +1,7 @@
 -- `make_fresh` fills the rows of an accepted platform, whose boot hart is one of them.
 use Rattle.rules.proofs.WellFormed.{platform-agrees, enabled-under}
 use Rattle.store.proofs.BeginningLaws.{fresh_holds}
-use Rattle.std.proofs.Common.{sym, refl, ◌∙◌, rules}
-use borrow.Author.Tests.{not-true, not-false}
+use Rattle.std.proofs.Common.{sym, refl, ◌∙◌}
 use Rattle.store.proofs.beginning.make_fresh.Goals as goal
 
 pub returns-then-not-accepted : goal.returns-then-not-accepted

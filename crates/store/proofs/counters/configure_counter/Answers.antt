@@ -3,7 +3,7 @@ use Rattle.rules.specs.Counters.{configured}
 use Rattle.rules.specs.Tables.{CounterFine}
 use Rattle.rules.specs.declared.records.Counter.{Counter}
 use Rattle.rules.proofs.Logic.{false-true}
-use Rattle.std.proofs.Common.{ℕ, ◌≤◌, sym, refl, subst, rules}
+use Rattle.std.proofs.Common.{ℕ, ◌≤◌, sym, refl, subst}
 use Rattle.store.proofs.counters.configure_counter.Goals as goal
 
 fine : (flags e : ℕ) (c : Counter) → e ≤ 21 → CounterFine (configured flags e c)

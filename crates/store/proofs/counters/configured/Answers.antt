@@ -1,6 +1,5 @@
 -- `configured` is the rule, field by field.
 use Rattle.rules.specs.Counters.{configured}
-use Rattle.std.proofs.Common.{rules}
 use Rattle.store.proofs.counters.configured.Goals as goal
 
 pub returns : goal.returns

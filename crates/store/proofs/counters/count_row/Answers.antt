@@ -1,7 +1,6 @@
 -- `count_row` counts one counter after the other, with what is left of the control word beside it.
-use Rattle.store.proofs.CountLaws.{counted_to, counted-held, none-mapped, start, turn-hit, turn-miss, turn-rest}
-use Rattle.store.proofs.ByteLaws.{past}
-use Rattle.std.proofs.Common.{◌≡◌, ◌-◌, ◌≤◌, get_or, ⊎_elim, add-one, arith, rules}
+use Rattle.store.proofs.CountLaws.{counted-held, none-mapped, start, turn-hit, turn-miss, turn-rest}
+use Rattle.std.proofs.Common.{◌≡◌, add-one, arith, rules}
 use Rattle.store.proofs.counters.count_row.Goals as goal
 use Rattle.store.proofs.counters.count_row.Goals.{then-control-want, else-control-want}
 
@@ -20,7 +19,7 @@ loop-i-preserved c =
       (
         rw add-one
             (elim c.if-control-want.branch [
-              then-control-want w ↦ cc (turn-hit a.r.now l.i a.code l.control e w.if-control-want.true)
+              | then-control-want w ↦ cc (turn-hit a.r.now l.i a.code l.control e w.if-control-want.true)
               | else-control-want w ↦ cc (turn-miss a.r.now l.i a.code l.control e w.if-control-want.false)
             ]),
         rw add-one (turn-rest a.r.now l.i a.code l.control e),

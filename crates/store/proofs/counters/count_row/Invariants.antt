@@ -1,7 +1,7 @@
 -- `count_row` counts one counter after the other, with what is left of the control word beside it.
-use Rattle.store.proofs.CountLaws.{counted_to, counted-held, none-mapped, start, turn-hit, turn-miss, turn-rest}
+use Rattle.store.proofs.CountLaws.{counted_to}
 use Rattle.store.proofs.ByteLaws.{past}
-use Rattle.std.proofs.Common.{◌≡◌, ◌-◌, ◌≤◌, get_or, ⊎_elim, add-one, arith, rules}
+use Rattle.std.proofs.Common.{◌≡◌, ◌-◌, ◌≤◌, get_or}
 use Rattle.store.proofs.counters.count_row.Given as goal
 
 abbrev pub invariant-loop-i : goal.invariant-loop-i

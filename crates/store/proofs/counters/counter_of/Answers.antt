@@ -1,6 +1,6 @@
 -- `counter_of` tells the three kinds of control byte apart.
 use Rattle.store.proofs.RowLaws.{of_none, of-stopped, of-running}
-use Rattle.std.proofs.Common.{sym, arith, rules}
+use Rattle.std.proofs.Common.{sym, arith}
 use Rattle.store.proofs.counters.counter_of.Goals as goal
 
 pub returns-then-b-eq0 : goal.returns-then-b-eq0

@@ -1,7 +1,7 @@
 -- `read_counter` reads a control byte and a value.
 use Rattle.store.proofs.RowLaws.{counter_at_lem}
 use Rattle.store.specs.Rows.{counter_in, counter_of}
-use Rattle.std.proofs.Common.{ℕ, ◌+◌, get_or, sym, ap, ◌∙◌, rules}
+use Rattle.std.proofs.Common.{ℕ, ◌+◌, get_or, sym, ap, ◌∙◌}
 use Rattle.store.proofs.counters.read_counter.Goals as goal
 
 pub returns : goal.returns

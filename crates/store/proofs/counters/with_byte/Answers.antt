@@ -1,6 +1,6 @@
 -- `with_byte` takes the old byte away and adds the new one.
 use Rattle.store.proofs.ByteLaws.{taken-under, put_is, with-small}
-use Rattle.std.proofs.Common.{◌^◌, ◌<◌, arith, rules}
+use Rattle.std.proofs.Common.{◌^◌, ◌<◌, arith}
 use Rattle.store.proofs.counters.with_byte.Goals as goal
 
 pub overflow_mul-result : goal.overflow_mul-result

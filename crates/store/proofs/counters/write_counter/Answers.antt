@@ -1,6 +1,6 @@
 -- `write_counter` puts a control byte and a value.
 use Rattle.store.proofs.CounterLaws.{control-small, with_counter, counter-held}
-use Rattle.std.proofs.Common.{◌^◌, ◌<◌, arith, rules}
+use Rattle.std.proofs.Common.{◌^◌, ◌<◌, arith}
 use Rattle.store.proofs.counters.write_counter.Goals as goal
 
 pub with_byte-requires : goal.with_byte-requires

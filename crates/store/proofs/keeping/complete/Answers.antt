@@ -4,7 +4,7 @@ use Rattle.store.specs.Rows.{Held, counters_in}
 use Rattle.store.specs.Seen.{row_of}
 use Rattle.store.specs.Settling.{completed_of}
 use Rattle.rules.specs.declared.records.Hart.{Hart}
-use Rattle.std.proofs.Common.{◌≤◌, [], get_or, sym, ap, subst, rules}
+use Rattle.std.proofs.Common.{◌≤◌, [], get_or, sym, ap, subst}
 use Rattle.store.proofs.keeping.complete.Goals as goal
 
 pub settle_row-requires : goal.settle_row-requires

@@ -2,7 +2,6 @@
 use Rattle.store.proofs.ViewLaws.{alter-own-holds}
 use Rattle.store.specs.Seen.{row_of}
 use Rattle.store.specs.Sets.{configure_at}
-use Rattle.std.proofs.Common.{rules}
 use Rattle.store.proofs.keeping.configure.Goals as goal
 
 pub configure_counter-requires : goal.configure_counter-requires

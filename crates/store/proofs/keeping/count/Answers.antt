@@ -3,7 +3,7 @@ use Rattle.store.proofs.ViewLaws.{alter-own-holds}
 use Rattle.store.specs.Seen.{row_of}
 use Rattle.rules.specs.Tables.{own_at}
 use Rattle.rules.specs.Replies.{counted, count_at}
-use Rattle.std.proofs.Common.{map, rules}
+use Rattle.std.proofs.Common.{map}
 use Rattle.store.proofs.keeping.count.Goals as goal
 
 pub count_row-requires : goal.count_row-requires

@@ -2,7 +2,7 @@
 use Rattle.store.proofs.ViewLaws.{own-seen}
 use Rattle.rules.specs.Tables.{counter_at}
 use Rattle.rules.specs.declared.records.Counter.{Counter}
-use Rattle.std.proofs.Common.{List, sym, ap, ◌∙◌, rules}
+use Rattle.std.proofs.Common.{List, sym, ap, ◌∙◌}
 use Rattle.store.proofs.keeping.get_counter.Goals as goal
 
 pub returns : goal.returns

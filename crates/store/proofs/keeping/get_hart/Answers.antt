@@ -1,6 +1,6 @@
 -- `get_hart` reads the hart's row.
 use Rattle.store.proofs.ViewLaws.{hart-seen}
-use Rattle.std.proofs.Common.{sym, ◌∙◌, rules}
+use Rattle.std.proofs.Common.{sym, ◌∙◌}
 use Rattle.store.proofs.keeping.get_hart.Goals as goal
 
 pub returns : goal.returns

@@ -3,7 +3,7 @@ use Rattle.store.proofs.ViewLaws.{own-seen}
 use Rattle.store.specs.Sets.{number_of, set_of}
 use Rattle.rules.specs.Counters.{chosen}
 use Rattle.rules.specs.declared.records.Counter.{Counter}
-use Rattle.std.proofs.Common.{List, sym, ap, ◌∙◌, rules}
+use Rattle.std.proofs.Common.{List, sym, ap, ◌∙◌}
 use Rattle.store.proofs.keeping.match_counter.Goals as goal
 
 pub returns : goal.returns

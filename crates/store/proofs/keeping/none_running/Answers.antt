@@ -4,7 +4,7 @@ use Rattle.store.specs.Sets.{set_of}
 use Rattle.rules.specs.Sets.{all}
 use Rattle.rules.specs.Counters.{not_running}
 use Rattle.rules.specs.declared.records.Counter.{Counter}
-use Rattle.std.proofs.Common.{List, sym, ap, ◌∙◌, rules}
+use Rattle.std.proofs.Common.{List, sym, ap, ◌∙◌}
 use Rattle.store.proofs.keeping.none_running.Goals as goal
 
 pub returns : goal.returns

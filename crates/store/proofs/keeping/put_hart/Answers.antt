@@ -1,7 +1,6 @@
 -- `put_hart` writes the hart's row.
 use Rattle.store.proofs.ViewLaws.{put-hart-holds}
 use Rattle.store.specs.Seen.{row_of}
-use Rattle.std.proofs.Common.{rules}
 use Rattle.store.proofs.keeping.put_hart.Goals as goal
 
 pub pack-requires : goal.pack-requires

@@ -4,7 +4,7 @@ use Rattle.store.proofs.EachLaws.{begun_kept}
 use Rattle.store.specs.Sets.{set_of, Kept}
 use Rattle.store.specs.Seen.{row_of}
 use Rattle.rules.specs.Counters.{each, begun}
-use Rattle.std.proofs.Common.{subst, rules}
+use Rattle.std.proofs.Common.{subst}
 use Rattle.store.proofs.keeping.start_set.Goals as goal
 
 pub start_row-requires : goal.start_row-requires

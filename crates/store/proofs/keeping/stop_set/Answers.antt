@@ -4,7 +4,7 @@ use Rattle.store.proofs.EachLaws.{ended-kept}
 use Rattle.store.specs.Sets.{set_of, Kept}
 use Rattle.store.specs.Seen.{row_of}
 use Rattle.rules.specs.Counters.{each, ended}
-use Rattle.std.proofs.Common.{subst, rules}
+use Rattle.std.proofs.Common.{subst}
 use Rattle.store.proofs.keeping.stop_set.Goals as goal
 
 pub stop_row-requires : goal.stop_row-requires

@@ -1,6 +1,6 @@
 -- `pack` writes the three words of a record.
 use Rattle.store.proofs.RowLaws.{note-small, with_hart, hart-held}
-use Rattle.std.proofs.Common.{◌^◌, ◌<◌, arith, rules}
+use Rattle.std.proofs.Common.{◌^◌, ◌<◌, arith}
 use Rattle.store.proofs.records.pack.Goals as goal
 
 pub overflow_add-r-2 : goal.overflow_add-r-2

@@ -1,7 +1,7 @@
 -- `state_in` gives a cleared word no state.
 use Rattle.rules.proofs.Logic.{if-true, if-false}
 use Rattle.store.specs.Rows.{state_in}
-use Rattle.std.proofs.Common.{sym, rules, le-ltb, lt-ltb}
+use Rattle.std.proofs.Common.{sym, le-ltb, lt-ltb}
 use Rattle.store.proofs.records.state_in.Goals as goal
 
 pub returns-then-w-lt2 : goal.returns-then-w-lt2

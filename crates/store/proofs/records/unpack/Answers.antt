@@ -1,6 +1,5 @@
 -- `unpack` reads the four places of a record.
 use Rattle.store.specs.Rows.{hart_in}
-use Rattle.std.proofs.Common.{rules}
 use Rattle.store.proofs.records.unpack.Goals as goal
 
 pub returns : goal.returns

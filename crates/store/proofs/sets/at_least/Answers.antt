@@ -1,6 +1,6 @@
 -- `at_least` looks at one byte after the other.
-use Rattle.store.proofs.KindLaws.{Marked, marked-none, marked-small, marked-under, marked_more}
-use Rattle.std.proofs.Common.{◌≡◌, ◌-◌, ◌≤◌, arith, rules}
+use Rattle.store.proofs.KindLaws.{marked-none, marked-small, marked-under, marked_more}
+use Rattle.std.proofs.Common.{◌≡◌, arith, rules}
 use Rattle.store.proofs.sets.at_least.Goals as goal
 
 pub loop-i-init : goal.loop-i-init

@@ -1,6 +1,5 @@
 -- `begun` is the rule, field by field.
 use Rattle.rules.specs.Counters.{begun}
-use Rattle.std.proofs.Common.{rules}
 use Rattle.store.proofs.sets.begun.Goals as goal
 
 pub returns : goal.returns

@@ -3,7 +3,7 @@ use Rattle.rules.specs.Choice.{if◌then◌else◌}
 use Rattle.rules.specs.Sets.{bit}
 use Rattle.rules.specs.Counters.{ended}
 use Rattle.rules.specs.declared.records.Counter.{Counter}
-use Rattle.std.proofs.Common.{◌≡◌, ℕ, Bool, true, false, sym, ap, ◌∙◌, rules}
+use Rattle.std.proofs.Common.{◌≡◌, ℕ, Bool, true, false, sym, ap, ◌∙◌}
 use mathlib.Core.Bool.{and-false, and-true}
 use Rattle.store.proofs.sets.ended.Goals as goal
 

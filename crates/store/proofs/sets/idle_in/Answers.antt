@@ -3,7 +3,7 @@ use Rattle.store.proofs.KindLaws.{idle-mask}
 use Rattle.store.proofs.SetLaws.{mask-small}
 use Rattle.rules.specs.Counters.{is_running}
 use Rattle.store.specs.Rows.{counters_in}
-use Rattle.std.proofs.Common.{ℕ, ◌-◌, ap, ◌∙◌, arith, rules}
+use Rattle.std.proofs.Common.{ℕ, ◌-◌, ap, ◌∙◌, arith}
 use Rattle.store.proofs.sets.idle_in.Goals as goal
 
 pub overflow_sub-result : goal.overflow_sub-result

@@ -2,7 +2,7 @@
 use Rattle.store.proofs.SetLaws.{within-is}
 use Rattle.rules.specs.Counters.{is_running}
 use Rattle.store.specs.Rows.{counters_in}
-use Rattle.std.proofs.Common.{ℕ, eqb, ap, ◌∙◌, rules}
+use Rattle.std.proofs.Common.{ℕ, eqb, ap, ◌∙◌}
 use lib.Bits.{bit_and}
 use Rattle.store.proofs.sets.row_all_running.Goals as goal
 

@@ -2,7 +2,7 @@
 use Rattle.store.proofs.KindLaws.{match_is}
 use Rattle.store.specs.Rows.{counters_in}
 use Rattle.rules.specs.Choice.{if◌then◌else◌}
-use Rattle.std.proofs.Common.{ℕ, Bool, ◌∙◌, ap₂, arith, rules}
+use Rattle.std.proofs.Common.{ℕ, Bool, ◌∙◌, ap₂, arith}
 use lib.Bits.{bit_and, bit_or}
 use lib.Count.{trailing_le}
 use Rattle.store.proofs.sets.row_match.Goals as goal

@@ -1,8 +1,7 @@
 -- `start_row` goes through the counters.
-use Rattle.store.proofs.EachLaws.{up_to, still_kept, alters-more, alters-none}
-use Rattle.store.specs.Rows.{Alters}
+use Rattle.store.proofs.EachLaws.{still_kept, alters-more, alters-none}
 use Rattle.rules.specs.Counters.{begun}
-use Rattle.std.proofs.Common.{◌≡◌, ◌-◌, ◌≤◌, arith, rules}
+use Rattle.std.proofs.Common.{◌≡◌, arith, rules}
 use Rattle.store.proofs.sets.start_row.Goals as goal
 
 pub loop-i-init : goal.loop-i-init

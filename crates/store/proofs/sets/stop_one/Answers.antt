@@ -1,7 +1,7 @@
 -- `stop_one` reads the counter, alters it and writes it, or leaves it.
 use Rattle.rules.specs.Tables.{CounterFine}
 use Rattle.rules.proofs.Logic.{if-true, if-false}
-use Rattle.std.proofs.Common.{sym, refl, ◌∙◌, subst, rules}
+use Rattle.std.proofs.Common.{sym, refl, ◌∙◌, subst}
 use Rattle.store.proofs.sets.stop_one.Goals as goal
 
 pub write_counter-requires : goal.write_counter-requires

@@ -1,8 +1,8 @@
 -- `stop_row` goes through the counters.
-use Rattle.store.proofs.EachLaws.{up_to, still_kept, alters-more, alters-none}
+use Rattle.store.proofs.EachLaws.{up_to}
 use Rattle.store.specs.Rows.{Alters}
 use Rattle.rules.specs.Counters.{ended}
-use Rattle.std.proofs.Common.{◌≡◌, ◌-◌, ◌≤◌, arith, rules}
+use Rattle.std.proofs.Common.{◌-◌, ◌≤◌}
 use Rattle.store.proofs.sets.stop_row.Given as goal
 
 abbrev pub invariant-loop-i : goal.invariant-loop-i

@@ -1,6 +1,6 @@
 -- `completed` takes the next record, or keeps the one it has.
 use Rattle.store.specs.Settling.{after, completed_of}
-use Rattle.std.proofs.Common.{sym, ap, ◌∙◌, rules}
+use Rattle.std.proofs.Common.{ap}
 use Rattle.store.proofs.settling.completed.Goals as goal
 
 pub returns-in-To : goal.returns-in-To

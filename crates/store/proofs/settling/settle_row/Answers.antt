@@ -2,7 +2,7 @@
 use Rattle.store.proofs.SettlingLaws.{completed-state}
 use Rattle.store.specs.Settling.{completed_of}
 use Rattle.rules.specs.declared.records.Hart.{Hart}
-use Rattle.std.proofs.Common.{◌≤◌, sym, ap, ◌∙◌, subst, rules}
+use Rattle.std.proofs.Common.{◌≤◌, sym, ap, ◌∙◌, subst}
 use Rattle.store.proofs.settling.settle_row.Goals as goal
 
 pub pack-requires : goal.pack-requires

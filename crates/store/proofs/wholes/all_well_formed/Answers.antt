@@ -1,6 +1,6 @@
 -- `all_well_formed` tests the two halves.
 use Rattle.store.proofs.WholeLaws.{halves-test, halves-shaped}
-use Rattle.std.proofs.Common.{◌∙◌, rules}
+use Rattle.std.proofs.Common.{◌∙◌}
 use Rattle.store.proofs.wholes.all_well_formed.Goals as goal
 
 pub returns : goal.returns

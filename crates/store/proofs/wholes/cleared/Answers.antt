@@ -1,8 +1,7 @@
 -- `cleared` folds the words by or.
 use Rattle.store.proofs.TestLaws.{or-none}
-use Rattle.rules.specs.Sets.{every}
 use Rattle.rules.proofs.SetLaws.{every-none, every_more}
-use Rattle.std.proofs.Common.{◌≡◌, ◌+◌, ◌-◌, ◌≤◌, Bool, ◌&&◌, eqb, get_or, sym, ap, ◌∙◌, arith, rules}
+use Rattle.std.proofs.Common.{◌≡◌, ◌+◌, Bool, ◌&&◌, eqb, get_or, sym, ap, ◌∙◌, arith, rules}
 use Rattle.store.proofs.wholes.cleared.Goals as goal
 
 pub loop-i-init : goal.loop-i-init

@@ -1,8 +1,6 @@
 -- `cleared` folds the words by or.
-use Rattle.store.proofs.TestLaws.{or-none}
 use Rattle.rules.specs.Sets.{every}
-use Rattle.rules.proofs.SetLaws.{every-none, every_more}
-use Rattle.std.proofs.Common.{◌≡◌, ◌+◌, ◌-◌, ◌≤◌, Bool, ◌&&◌, eqb, get_or, sym, ap, ◌∙◌, arith, rules}
+use Rattle.std.proofs.Common.{◌≡◌, ◌+◌, ◌-◌, ◌≤◌, eqb, get_or}
 use Rattle.store.proofs.wholes.cleared.Given as goal
 
 abbrev pub invariant-loop-i : goal.invariant-loop-i

@@ -1,7 +1,6 @@
 -- `half_well_formed` tests one row after the other.
-use Rattle.store.proofs.WholeLaws.{half-none, half-more}
-use Rattle.store.specs.Tests.{Half, row_well_formed}
-use Rattle.std.proofs.Common.{◌≡◌, ◌+◌, ◌-◌, ◌≤◌, Bool, [], get_or, ap, ◌∙◌, arith, rules}
+use Rattle.store.specs.Tests.{Half}
+use Rattle.std.proofs.Common.{◌-◌, ◌≤◌}
 use Rattle.store.proofs.wholes.half_well_formed.Given as goal
 
 abbrev pub invariant-loop-i : goal.invariant-loop-i

@@ -1,7 +1,7 @@
 -- `row_well_formed` asks of the words what the rules ask of what they hold.
 use Rattle.store.proofs.TestLaws.{row_on, row-off}
 use Rattle.store.specs.Tests.{row_well_formed}
-use Rattle.std.proofs.Common.{arith, Bool, ◌&&◌, eqb, get_or, sym, ap, ◌∙◌, ap₂, rules}
+use Rattle.std.proofs.Common.{arith, Bool, ◌&&◌, eqb, get_or, sym, ap, ◌∙◌, ap₂}
 use Rattle.store.proofs.wholes.row_well_formed.Goals as goal
 
 pub returns-then-enabled : goal.returns-then-enabled

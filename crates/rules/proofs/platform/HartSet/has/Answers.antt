@@ -1,7 +1,6 @@
 -- `HartSet::has` asks the word that holds the hart.
 use Rattle.rules.specs.Choice.{if◌then◌else◌}
 use Rattle.rules.specs.Platform.{has}
-use borrow.Author.Rules.{rules}
 use borrow.Author.Tests.{lt-ltb, le-ltb}
 use Rattle.rules.proofs.platform.HartSet.has.Goals as goal
 

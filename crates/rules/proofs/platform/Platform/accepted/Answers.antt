@@ -2,8 +2,7 @@
 use Rattle.rules.specs.Platform.{platform_accepted, enabled, hypervisor, used_ranges}
 use mathlib.Core.Path.{sym, ◌∙◌}
 use native.Mathlib.Omega.{arith}
-use borrow.Author.Tests.{le-leb, lt-leb, not-true, not-false}
-use borrow.Author.Rules.{rules}
+use borrow.Author.Tests.{le-leb, lt-leb}
 use Rattle.rules.proofs.platform.Platform.accepted.Goals as goal
 
 pub returns-then-not-is_enabled : goal.returns-then-not-is_enabled

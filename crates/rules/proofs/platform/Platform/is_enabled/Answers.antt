@@ -1,6 +1,5 @@
 -- `Platform::is_enabled` is membership in the enabled harts.
 use Rattle.rules.specs.Platform.{enabled}
-use borrow.Author.Rules.{rules}
 use Rattle.rules.proofs.platform.Platform.is_enabled.Goals as goal
 
 pub returns : goal.returns

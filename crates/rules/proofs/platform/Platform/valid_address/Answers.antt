@@ -1,7 +1,6 @@
 -- `Platform::valid_address` tests that the address is even, then the ranges.
 use Rattle.rules.specs.Platform.{valid_address, used_ranges}
 use borrow.Author.Tests.{eq-eqb, ne_eqb}
-use borrow.Author.Rules.{rules}
 use Rattle.rules.proofs.platform.Platform.valid_address.Goals as goal
 
 pub returns-then-a-ne0 : goal.returns-then-a-ne0

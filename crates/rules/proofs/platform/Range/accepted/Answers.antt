@@ -4,7 +4,6 @@ use Rattle.rules.proofs.platform.RangeLaws.{ends-under}
 use Prim.Native.Nat.{◌<◌, ◌^◌}
 use native.Mathlib.Omega.{arith}
 use borrow.Author.Tests.{lt-ltb, le-ltb}
-use borrow.Author.Rules.{rules}
 use Rattle.rules.proofs.platform.Range.accepted.Goals as goal
 
 pub returns-then-self-eq0 : goal.returns-then-self-eq0

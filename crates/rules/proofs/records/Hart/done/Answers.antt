@@ -1,7 +1,6 @@
 -- `Hart::done` goes from each of the four pending states, and from no other.
 use Rattle.rules.specs.Choice.{if◌then◌else◌}
 use Rattle.rules.specs.Harts.{done_of}
-use borrow.Author.Rules.{rules}
 use borrow.Author.Tests.{eq-eqb, ne_eqb}
 use Rattle.rules.proofs.records.Hart.done.Goals as goal
 

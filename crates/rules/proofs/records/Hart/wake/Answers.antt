@@ -1,7 +1,6 @@
 -- `Hart::wake` goes from SUSPENDED alone.
 use Rattle.rules.specs.Choice.{if◌then◌else◌}
 use Rattle.rules.specs.Harts.{wake_of}
-use borrow.Author.Rules.{rules}
 use borrow.Author.Tests.{eq-eqb, ne_eqb}
 use Rattle.rules.proofs.records.Hart.wake.Goals as goal
 

@@ -1,0 +1,9 @@
+-- `fill`: what is read so far lies within the buffer.
+use Rattle.std.proofs.Common.{length, ◌-◌, ◌≤◌}
+use Rattle.transcript.proofs.input.fill.Given as goal
+
+abbrev pub invariant-loop-have : goal.invariant-loop-have
+invariant-loop-have g l = l.have ≤ length l.initial.buf
+
+abbrev pub decreases-loop-have : goal.decreases-loop-have
+decreases-loop-have g l = length l.initial.buf - l.have
