@@ -30,8 +30,7 @@ returns-then-not-id_valid c = plain-failing _ _ c.requires.1.0 _ _ _ invalid_par
     (sym c.id_valid.ensures ∙ c.if-not-id_valid.true)) c.invalid_param-then-not-id_valid.ensures _
 
 pub hypervisors_fit-requires : goal.hypervisors_fit-requires
-hypervisors_fit-requires c =
-    (sym c.selection_fits.ensures ∙ c.if-not-selection_fits.false)
+hypervisors_fit-requires c = sym c.selection_fits.ensures ∙ c.if-not-selection_fits.false
 
 pub returns-then-not-hypervisors_fit : goal.returns-then-not-hypervisors_fit
 returns-then-not-hypervisors_fit c = plain-failing _ _ c.requires.1.0 _ _ _
