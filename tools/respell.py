@@ -11,6 +11,8 @@ Rattle and must-fail edits) and in README.md and docs/, and there also those tha
   SFENCE-VMA       sfence_vma        a constructor
   START-PENDING    START_PENDING     a state, as the numbers of src/ spell it
   count_at         count_at_lem      a lemma whose name a function takes (countAt, counterAt)
+  if b then x else y, when b then x else y: the rules' own choice, whose name the library has since
+                   taken for another
 Functions of src/, exported names, strings, inputs and outputs keep their names. A new name that
 stands somewhere already is printed with its places; --check writes nothing.
 """
@@ -28,6 +30,22 @@ SPECIAL = {
     "count_at": "count_at_lem",
     "counter_at": "counter_at_lem",
 }
+
+
+CHOICE = re.compile(r"(?<![\w.'-])if(?=◌then◌else◌|\s|$)")
+
+
+def chosen(path, text):
+    """The text with `when` for `if`: in antt all of it but comments, elsewhere where a `then` follows."""
+    turned = []
+    for line in text.split("\n"):
+        code, dashes, comment = line, "", ""
+        if path.suffix == ".antt":
+            code, dashes, comment = line.partition("--")
+        elif line.lstrip().startswith("//") or "then" not in line:
+            code, comment = "", line
+        turned.append(CHOICE.sub("when", code) + dashes + comment)
+    return "\n".join(turned)
 
 
 def part(word):
@@ -61,6 +79,9 @@ def main():
             places.setdefault(name, set()).add(str(path.relative_to(top)))
     held = {n for path in proofs for n in WORD.findall(path.read_text())}
     names = {n: respelled(n) for n in held if respelled(n) != n}
+    for lemma, function in (("count_at", "countAt"), ("counter_at", "counterAt")):
+        if function not in held:
+            names.pop(lemma, None)  # the function has taken the name already
     for old, new in sorted(names.items()):
         if new in places and new not in names:
             both = sorted(places[old] & places[new])
@@ -74,6 +95,8 @@ def main():
     for path in proofs + sources + others:
         text = path.read_text()
         new = WORD.sub(lambda m: names.get(m.group(), m.group()), text)
+        if path.suffix != ".md":
+            new = chosen(path, new)
         if new != text:
             turned += 1
             if not sys.argv[1:]:

@@ -5,7 +5,7 @@
 --   passes ws         the words sum to 1 modulo 2^64
 --   record_at ws i     record i of seven
 use Rattle.std.specs.Prelude.{ℕ, zero, suc, ◌+◌, ◌-◌, ◌*◌, ◌%◌, ◌^◌, Bool, ◌&&◌, List, [], ◌∷◌, ◌++◌, ◌==◌, nat_le, nat_lt, slice_index}
-use Rattle.rules.specs.Choice.{if◌then◌else◌}
+use Rattle.rules.specs.Choice.{when◌then◌else◌}
 use Rattle.blocks.specs.declared.Record.{Record}
 use Rattle.blocks.specs.declared.Record.TheVariants.{Unused, Call, Done, Wake, Event, Unknown}
 
@@ -34,12 +34,12 @@ is k w = nat_le k w && nat_lt w (k + 128)
 
 unfoldable pub record_of : (first second third a0 a1 a2 a3 a4 a5 : ℕ) → Record
 record_of w eid fid a b c d e f =
-    if w == 0 then Unused
-    else if is 256 w then
+    when w == 0 then Unused
+    else when is 256 w then
     Call (w - 256) (record { a0 = a; a1 = b; a2 = c; a3 = d; a4 = e; a5 = f; a6 = fid; a7 = eid })
-    else if is 512 w then Done (w - 512)
-    else if is 768 w then Wake (w - 768)
-    else if is 1024 w then Event (w - 1024) eid
+    else when is 512 w then Done (w - 512)
+    else when is 768 w then Wake (w - 768)
+    else when is 1024 w then Event (w - 1024) eid
     else Unknown
 
 unfoldable pub record_at : List ℕ → (i : ℕ) → Record

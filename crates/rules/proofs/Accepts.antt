@@ -7,7 +7,7 @@ use native.Mathlib.Omega.{arith}
 use lib.Dec.{ltb, leb, eqb}
 use lib.ListN.{get_or-eq_default}
 use borrow.Author.Tests.{eqb-true, eq-eqb, le-ltb, leb-true}
-use Rattle.rules.specs.Choice.{if◌then◌else◌}
+use Rattle.rules.specs.Choice.{when◌then◌else◌}
 use Rattle.rules.specs.Names.{STARTED, STOPPED, action_memory, harts, retentive_type, non_retentive_type}
 use Rattle.rules.specs.Platform.{enabled}
 use Rattle.rules.specs.Tables.{Tables, idle, hart_at, state_of, TablesWellFormed}
@@ -34,7 +34,7 @@ pub data Accepted : Reply → Type 0 where
 pub is-accepted : {r : Reply} → Accepted r → accepted r ≡ true
 is-accepted is = refl
 
-pass : {b : Bool} (x : Reply) {y : Reply} → b ≡ false → Accepted y → Accepted (if b then x else y)
+pass : {b : Bool} (x : Reply) {y : Reply} → b ≡ false → Accepted y → Accepted (when b then x else y)
 pass x e a = rw if-false a
 
 moves-accepted : (v : View) (k : Bool) (acts : List Action) (hs : List Hart) → Accepted (moves v k acts hs)
@@ -65,14 +65,14 @@ data Allowed : Next → Type 0 where
   allowed : {x : Hart} → Allowed (To x)
 
 done-goes : {a b : Place} (x : Hart) → Goes a done b → Stands a x → Allowed (done_of x)
-unfolding done_of if◌then◌else◌
+unfolding done_of when◌then◌else◌
 done-goes x g-started q = rw q.state allowed
 done-goes x g-suspended q = rw q.state allowed
 done-goes x g-woken q = rw q.state allowed
 done-goes x g-stopped q = rw q.state allowed
 
 wake-goes : {a b : Place} (x : Hart) → Goes a wake b → Stands a x → Allowed (wake_of x)
-unfolding wake_of if◌then◌else◌
+unfolding wake_of when◌then◌else◌
 wake-goes x g-wake q = rw q.state allowed
 
 start-goes : {a b : Place} → Goes a start b → name a ≡ STOPPED

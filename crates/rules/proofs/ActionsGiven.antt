@@ -21,7 +21,7 @@ use Rattle.rules.specs.Machine.{Operation, call, checked_reply, completion, enab
 use Rattle.rules.specs.Machine.{plain_reply, reply, request_reply, waking}
 use Rattle.rules.specs.Tables.{Tables, hart_at}
 use Rattle.rules.specs.Harts.{done_of, done_reply, wake_actions, wake_of, wake_reply}
-use Rattle.rules.specs.Choice.{if◌then◌else◌}
+use Rattle.rules.specs.Choice.{when◌then◌else◌}
 use Rattle.rules.specs.declared.records.Hart.{Hart}
 use Rattle.rules.specs.declared.platform.Platform.{Platform}
 use Rattle.rules.specs.declared.answers.Registers.{Registers}
@@ -112,7 +112,7 @@ module _ (q : Registers) where
       (λ _. if-both Unparked _ (λ y. absurd (clash y n)) (λ _. if-both Unparked _ (λ _. refl) (λ _. refl)))))
 
   parking : parks (request q) ≡ (eqb q.a7 HSM && (eqb q.a6 1 || eqb q.a6 3))
-  unfolding hart_request if◌then◌else◌
+  unfolding hart_request when◌then◌else◌
   parking =
       by_cases (eqb q.a7 HSM)
       (λ y.

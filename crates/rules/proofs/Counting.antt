@@ -7,7 +7,7 @@ use lib.Dec.{eqb}
 use lib.ListN.{get_or, set, length, get_or-eq_default}
 use lib.Seq.{get_or-set_same, get_or-set_other, set_out}
 use borrow.Author.Tests.{eqb-true, eqb-false, eq-eqb, ne_eqb}
-use Rattle.rules.specs.Choice.{if◌then◌else◌}
+use Rattle.rules.specs.Choice.{when◌then◌else◌}
 use Rattle.rules.specs.Tables.{counter_at}
 use Rattle.rules.specs.Replies.{counted, count_at, tell_one, tell}
 use Rattle.rules.specs.Events.{times, others, occurs}
@@ -32,7 +32,7 @@ events-add-one e c = record {
 
 module _ (h e : ℕ) (t : List (List Counter)) where
   -- counter i of hart k after it
-  pub count_at_lem : (k i : ℕ) → counter_at (get_or (count_at h e t) k []) i ≡ if eqb k h then counted e
+  pub count_at_lem : (k i : ℕ) → counter_at (get_or (count_at h e t) k []) i ≡ when eqb k h then counted e
       (counter_at (get_or t k []) i) else counter_at (get_or t k []) i
   unfolding count_at
   count_at_lem k i =
@@ -61,7 +61,7 @@ module _ (h e : ℕ) (t : List (List Counter)) where
 
 module _ (h e : ℕ) where
   tell_one-caller : (k : ℕ) (t : List (List Counter)) (i : ℕ)
-      → counter_at (get_or (tell_one h e k t) h []) i ≡ if eqb k h then counter_at (get_or t h []) i
+      → counter_at (get_or (tell_one h e k t) h []) i ≡ when eqb k h then counter_at (get_or t h []) i
       else counted e (counter_at (get_or t h []) i)
   unfolding tell_one
   tell_one-caller k t i =
@@ -74,7 +74,7 @@ module _ (h e : ℕ) where
       ∙ count_at_lem h e t h i ∙ if-true _ _ (eq-eqb h h refl) ∙ sym (if-false _ _ n))
 
   tell_one-other : (k j : ℕ) (t : List (List Counter)) (i : ℕ) → (j ≡ h → ⊥)
-      → counter_at (get_or (tell_one h e k t) j []) i ≡ if eqb k j then counted (e + 1) (counter_at (get_or t j []) i)
+      → counter_at (get_or (tell_one h e k t) j []) i ≡ when eqb k j then counted (e + 1) (counter_at (get_or t j []) i)
       else counter_at (get_or t j []) i
   unfolding tell_one
   tell_one-other k j t i away =
@@ -85,9 +85,9 @@ module _ (h e : ℕ) where
       (λ n.
       ap (λ (u : List (List Counter)). counter_at (get_or u j []) i) (if-false _ _ n)
       ∙ count_at_lem k (e + 1) (count_at h e t) j i
-      ∙ ap (λ (b : Bool). if b then counted (e + 1) (counter_at (get_or (count_at h e t) j []) i)
+      ∙ ap (λ (b : Bool). when b then counted (e + 1) (counter_at (get_or (count_at h e t) j []) i)
       else counter_at (get_or (count_at h e t) j []) i) (turn j k)
-      ∙ ap (λ (c : Counter). if eqb k j then counted (e + 1) c else c)
+      ∙ ap (λ (c : Counter). when eqb k j then counted (e + 1) c else c)
       (count_at_lem h e t j i ∙ if-false _ _ (ne_eqb j h away)))
     where
       turn : (a b : ℕ) → eqb a b ≡ eqb b a

@@ -22,7 +22,7 @@ use Rattle.rules.specs.Harts.{goes_on, start_reply, status_reply, stop_reply, su
 use Rattle.rules.specs.Counters.{configure_chosen, configure_reply, counter_start_reply, counter_stop_reply}
 use Rattle.rules.specs.Counters.{details_reply, read_high_reply, read_reply}
 use Rattle.rules.specs.Masks.{action_for, reached, reaches, selection_fits, send_to}
-use Rattle.rules.specs.Choice.{if◌then◌else◌}
+use Rattle.rules.specs.Choice.{when◌then◌else◌}
 use Rattle.rules.specs.declared.platform.Platform.{Platform}
 use Rattle.rules.specs.declared.records.Hart.{Hart}
 use Rattle.rules.specs.declared.records.Counter.{Counter}
@@ -63,7 +63,7 @@ pub data PlainDeed (sending : Bool) : Plain → Type 0 where
       → PlainDeed sending (sends acts c ks)
 
 walk : {s b : Bool} {x y : Plain} → (b ≡ true → PlainDeed s x) → (b ≡ false → PlainDeed s y)
-    → PlainDeed s (if b then x else y)
+    → PlainDeed s (when b then x else y)
 walk {s} {b} f g = if-both (PlainDeed s) b f g
 
 -- those that a mask that fits reaches are at most 128
@@ -159,7 +159,7 @@ plain-parked v (sends acts c ks) d i = cc
 -- ----- calls that alter a hart's record, completions and wakes
 
 pub stroll : {acts : List Action} {k b : Bool} {x y : Reply} → (b ≡ true → Quiet acts k x)
-    → (b ≡ false → Quiet acts k y) → Quiet acts k (if b then x else y)
+    → (b ≡ false → Quiet acts k y) → Quiet acts k (when b then x else y)
 stroll {acts} {k} {b} f g = if-both (Quiet acts k) b f g
 
 moves-quiet : (v : View) (k : Bool) (acts : List Action) (hs : List Hart) → Quiet acts k (moves v k acts hs)

@@ -5,7 +5,7 @@ use mathlib.Core.List.{List, [], ◌∷◌, ◌++◌}
 use Prim.Native.Nat.{ℕ}
 use lib.Dec.{leb, eqb}
 use borrow.Author.Tests.{eqb-true, eq-eqb, le-ltb, leb-true}
-use Rattle.rules.specs.Choice.{if◌then◌else◌}
+use Rattle.rules.specs.Choice.{when◌then◌else◌}
 use Rattle.rules.specs.Names.{STARTED, STOPPED, HSM, action_memory, success}
 use Rattle.rules.specs.Platform.{enabled, platform_accepted}
 use Rattle.rules.specs.Tables.{Tables, state_of, fresh, TablesWellFormed}
@@ -48,7 +48,7 @@ module _ (p : Platform) (ok : platform_accepted p ≡ true) (ops : List Operatio
   -- what is accepted fits
   sound : (h : ℕ) (e : Event) (op : Operation) → event_of op ≡ h does e ∷ []
       → accepted (reply p (tables_now p ops) op) ≡ true → Reading (row_now p ops h ++ (e ∷ []))
-  unfolding adds if◌then◌else◌
+  unfolding adds when◌then◌else◌
   sound h e op ev yes' =
       let T = track p h (tables_now p ops) fine (row_now p ops h) (tracked h) op in
       let added : adds p h (tables_now p ops) op ≡ e ∷ [] = rw (yes', ev, eq-eqb h h refl) refl in

@@ -7,7 +7,7 @@ use native.Mathlib.Omega.{arith}
 use lib.ListN.{set}
 use lib.IntN.{ℤ}
 use borrow.Author.Tests.{eqb-true, not-false}
-use Rattle.rules.specs.Choice.{if◌then◌else◌}
+use Rattle.rules.specs.Choice.{when◌then◌else◌}
 use Rattle.rules.specs.Names.{STARTED}
 use Rattle.rules.specs.Platform.{enabled}
 use Rattle.rules.specs.Tables.{Tables, hart_at, state_of}
@@ -59,7 +59,7 @@ leads {from} {to} {e} g s u at q =
 -- ----- the calls
 
 walk : {p : Platform} {hs : List Hart} {es : List InRow} {b : Bool} {x y : Reply}
-    → (b ≡ true → Lawful p hs es x) → (b ≡ false → Lawful p hs es y) → Lawful p hs es (if b then x else y)
+    → (b ≡ true → Lawful p hs es x) → (b ≡ false → Lawful p hs es y) → Lawful p hs es (when b then x else y)
 walk {p} {hs} {es} {b} f g = if-both (Lawful p hs es) b f g
 
 moves-lawful : {p : Platform} {es : List InRow} (v : View) (parked : Bool) (acts : List Action) {hs : List Hart}
@@ -102,7 +102,7 @@ never : {x : Hart} → Forbidden ≡ To x → ⊥
 never e = let z : ◌≡◌ {A = ℕ} 0 1 = cc in omega arith
 
 done-leads : (x y : Hart) → done_of x ≡ To y → Leads done x y
-unfolding done_of if◌then◌else◌
+unfolding done_of when◌then◌else◌
 done-leads x y e off q = absurd (never (rw q.state at e))
 done-leads x y e starting q = let i = rw q.state at e in (up, g-started, record { state = cc })
 done-leads x y e up q = absurd (never (rw q.state at e))
@@ -112,7 +112,7 @@ done-leads x y e rising q = let i = rw q.state at e in (up, g-woken, record { st
 done-leads x y e stopping q = let i = rw q.state at e in (off, g-stopped, record { state = cc })
 
 wake-leads : (x y : Hart) → wake_of x ≡ To y → Leads wake x y
-unfolding wake_of if◌then◌else◌
+unfolding wake_of when◌then◌else◌
 wake-leads x y e off q = absurd (never (rw q.state at e))
 wake-leads x y e starting q = absurd (never (rw q.state at e))
 wake-leads x y e up q = absurd (never (rw q.state at e))

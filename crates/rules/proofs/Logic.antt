@@ -1,38 +1,38 @@
--- Plain logic: the laws of `if◌then◌else◌`, tests joined by and, or, not, and contradictions.
+-- Plain logic: the laws of `when◌then◌else◌`, tests joined by and, or, not, and contradictions.
 use mathlib.Core.Path.{◌≡◌, refl, sym, ◌∙◌}
 use mathlib.Core.Bool.{Bool, true, false, not, ◌&&◌, ◌||◌}
 use Prim.Native.Nat.{ℕ, ◌<◌, ◌≤◌}
 use native.Mathlib.Omega.{arith}
 use lib.Dec.{ltb}
 use borrow.Author.Tests.{ltb-true, ltb-false}
-use Rattle.rules.specs.Choice.{if◌then◌else◌}
+use Rattle.rules.specs.Choice.{when◌then◌else◌}
 
 -- ----- choices
 
 module _ {A : Type 0} where
-  pub if-true : {b : Bool} (x y : A) → b ≡ true → if b then x else y ≡ x
-  unfolding if◌then◌else◌
+  pub if-true : {b : Bool} (x y : A) → b ≡ true → when b then x else y ≡ x
+  unfolding when◌then◌else◌
   if-true x y e = rw e
 
-  pub if-false : {b : Bool} (x y : A) → b ≡ false → if b then x else y ≡ y
-  unfolding if◌then◌else◌
+  pub if-false : {b : Bool} (x y : A) → b ≡ false → when b then x else y ≡ y
+  unfolding when◌then◌else◌
   if-false x y e = rw e
 
   -- to prove P of a choice is to prove it of each arm, under what the test then says
-  pub if-both : (P : A → Type 0) (b : Bool) {x y : A} → (b ≡ true → P x) → (b ≡ false → P y) → P (if b then x else y)
-  unfolding if◌then◌else◌
+  pub if-both : (P : A → Type 0) (b : Bool) {x y : A} → (b ≡ true → P x) → (b ≡ false → P y) → P (when b then x else y)
+  unfolding when◌then◌else◌
   if-both P true f g = f refl
   if-both P false f g = g refl
 
   -- both arms are the same
-  pub if-same : (b : Bool) (x : A) → if b then x else x ≡ x
-  unfolding if◌then◌else◌
+  pub if-same : (b : Bool) (x : A) → when b then x else x ≡ x
+  unfolding when◌then◌else◌
   if-same true x = refl
   if-same false x = refl
 
 -- a function of a choice is the choice of the function's values
-pub if-ap : {A B : Type 0} (g : A → B) (b : Bool) (x y : A) → g (if b then x else y) ≡ if b then g x else g y
-unfolding if◌then◌else◌
+pub if-ap : {A B : Type 0} (g : A → B) (b : Bool) (x y : A) → g (when b then x else y) ≡ when b then g x else g y
+unfolding when◌then◌else◌
 if-ap g true x y = refl
 if-ap g false x y = refl
 

@@ -14,7 +14,7 @@ use Rattle.rules.specs.Names.{STOPPED, SUSPENDED, counters, harts, retentive_typ
 use Rattle.rules.specs.Promises.{FreshExact, NoteWritten, NotesKept, SameNote, SuspendsNoted}
 use Rattle.rules.specs.Rows.{InRow, ◌does◌, event_of, request_event}
 use Rattle.rules.specs.Counters.{event_reply}
-use Rattle.rules.specs.Choice.{if◌then◌else◌}
+use Rattle.rules.specs.Choice.{when◌then◌else◌}
 use Rattle.rules.specs.Replies.{Done, Plain, Reply, View, accepted, commit, did, failed, fails, gives, moves}
 use Rattle.rules.specs.Replies.{plain, refused, sends, view}
 use Rattle.rules.specs.Harts.{done_of, done_reply, goes_on, start_reply, stop_reply, suspend_of, suspend_reply, wake_of}
@@ -76,7 +76,7 @@ data NextNote (x : Hart) : Next → Type 0 where
   n-forbidden : NextNote x Forbidden
 
 step : {x : Hart} {b : Bool} {m n : Next} → (b ≡ true → NextNote x m) → (b ≡ false → NextNote x n)
-    → NextNote x (if b then m else n)
+    → NextNote x (when b then m else n)
 step {x} {b} f g = if-both (NextNote x) b f g
 
 done-note : (x : Hart) → NextNote x (done_of x)
@@ -115,7 +115,7 @@ data NotesStay (hs : List Hart) (es : List InRow) : Reply → Type 0 where
   s-did : {d : Done} → NotesSame hs es d.harts → NotesStay hs es (did d)
 
 walk : {hs : List Hart} {es : List InRow} {b : Bool} {x y : Reply} → (b ≡ true → NotesStay hs es x)
-    → (b ≡ false → NotesStay hs es y) → NotesStay hs es (if b then x else y)
+    → (b ≡ false → NotesStay hs es y) → NotesStay hs es (when b then x else y)
 walk {hs} {es} {b} f g = if-both (NotesStay hs es) b f g
 
 moves-stay : (v : View) (k : Bool) (acts : List Action) {es : List InRow} (hs : List Hart)
@@ -206,7 +206,7 @@ module _ (p : Platform) (t : Tables) (room h : ℕ) (q : Registers) (a7 : q.a7 �
       (rw passed.fine.records (enabled-under p h passed.on))
 
   noted : NoteWritten q (hart_at (after p t (call room h q)).harts h)
-  unfolding suspend_of if◌then◌else◌ view
+  unfolding suspend_of when◌then◌else◌ view
   noted = record {
     type = λ n.
         by_cases (eqb type non_retentive_type) (λ y. eqb-true _ _ y)

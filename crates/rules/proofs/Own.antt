@@ -12,7 +12,7 @@ use borrow.Author.Tests.{leb-true, not-false}
 use Rattle.rules.specs.Refusals.{errors_of, plain_errors, refusals_of, request_errors}
 use Rattle.rules.specs.Names.{invalid_param, not_enabled, not_supported, not_well_formed, short_memory, state_forbids}
 use Rattle.rules.specs.Names.{counters, first_event, last_event, last_code}
-use Rattle.rules.specs.Choice.{if◌then◌else◌}
+use Rattle.rules.specs.Choice.{when◌then◌else◌}
 use Rattle.rules.specs.Sets.{bit, all}
 use Rattle.rules.specs.Tables.{blank, counter_at, CounterFine}
 use Rattle.rules.specs.Replies.{View, Done, Reply, refused, failed, did, moves, Plain, fails, gives, sends}
@@ -109,7 +109,7 @@ data PlainFine (es : List ℤ) : Plain → Type 0 where
   f-sends : {acts : List Action} {c : ℕ} {ks : List ℕ} → PlainFine es (sends acts c ks)
 
 walk : {es : List ℤ} {b : Bool} {x y : Plain} → (b ≡ true → PlainFine es x) → (b ≡ false → PlainFine es y)
-    → PlainFine es (if b then x else y)
+    → PlainFine es (when b then x else y)
 walk {es} {b} f g = if-both (PlainFine es) b f g
 
 chosen-fine : (flags e : ℕ) (cs : List Counter) → e ≤ last_code → Fine cs → (o : Option ℕ)
@@ -158,7 +158,7 @@ plain-fine p v f unknown = f-fails first-in
 -- ----- events
 
 pub counted-blank : (e : ℕ) → counted e blank ≡ blank
-unfolding counted if◌then◌else◌
+unfolding counted when◌then◌else◌
 counted-blank e = refl
 
 counted-fine : (e : ℕ) (c : Counter) → CounterFine c → CounterFine (counted e c)
@@ -184,7 +184,7 @@ pub data ReplyFine (ks : List ℕ) (es : List ℤ) : Reply → Type 0 where
 
 stroll : {ks : List ℕ} {es : List ℤ} {b : Bool} {x y : Reply} → (b ≡ true → ReplyFine ks es x)
     → (b ≡ false → ReplyFine ks es y)
-    → ReplyFine ks es (if b then x else y)
+    → ReplyFine ks es (when b then x else y)
 stroll {ks} {es} {b} f g = if-both (ReplyFine ks es) b f g
 
 plain-reply-fine : {ks : List ℕ} {es : List ℤ} (v : View) → Fine v.own → {q : Plain} → PlainFine es q

@@ -4,7 +4,7 @@ use mathlib.Core.Bool.{Bool, true, false}
 use Prim.Native.Nat.{ℕ}
 use native.Mathlib.Omega.{arith}
 use borrow.Author.Tests.{not-false}
-use Rattle.rules.specs.Choice.{if◌then◌else◌}
+use Rattle.rules.specs.Choice.{when◌then◌else◌}
 use Rattle.rules.specs.Platform.{enabled, platform_accepted}
 use Rattle.rules.specs.Tables.{Tables, well_formed, tables_well_formed, TablesWellFormed}
 use Rattle.rules.specs.Replies.{view, Done, Reply, refused, failed, did, accepted}
@@ -14,9 +14,9 @@ use Rattle.rules.proofs.Logic.{false-true, and_r}
 use Rattle.rules.proofs.WellFormed.{tables_agree}
 
 -- a choice that is done was not refused
-pub if-did : (b : Bool) (k : ℕ) (r : Reply) (d : Done) → (if b then refused k else r) ≡ did d
+pub if-did : (b : Bool) (k : ℕ) (r : Reply) (d : Done) → (when b then refused k else r) ≡ did d
     → (b ≡ false) × (r ≡ did d)
-unfolding if◌then◌else◌
+unfolding when◌then◌else◌
 if-did true k r d e = let z : ◌≡◌ {A = ℕ} 0 1 = cc in absurd (omega arith)
 if-did false k r d e = (refl, e)
 

@@ -7,7 +7,7 @@ use native.Mathlib.Omega.{arith}
 use lib.Dec.{eqb}
 use lib.IntN.{ℤ}
 use Rattle.rules.specs.Names.{IPI, RFENCE, interrupt_kind, fence_kind, interrupt_sent}
-use Rattle.rules.specs.Choice.{if◌then◌else◌}
+use Rattle.rules.specs.Choice.{when◌then◌else◌}
 use Rattle.rules.specs.Tables.{Tables}
 use Rattle.rules.specs.Replies.{View, view, Done, did, Plain, fails, plain}
 use Rattle.rules.specs.Masks.{reached, action_for, send_to}
@@ -38,7 +38,7 @@ pub fence-asked : (q : Registers) (f : Fence) → q.a7 ≡ RFENCE → q.a6 ≡ f
     → request q ≡ other
     (fence (function_of f) q.a0 q.a1 (start_in (operands_of f) q) (size_in (operands_of f) q)
     (id_in (operands_of f) q))
-unfolding request fence_request if◌then◌else◌
+unfolding request fence_request when◌then◌else◌
 fence-asked q fence_i a7 a6 = rw (a7, a6) refl
 fence-asked q sfence_vma a7 a6 = rw (a7, a6) refl
 fence-asked q sfence_vma_asid a7 a6 = rw (a7, a6) refl
@@ -48,9 +48,9 @@ fence-asked q hfence_vvma_asid a7 a6 = rw (a7, a6) refl
 fence-asked q hfence_vvma a7 a6 = rw (a7, a6) refl
 
 -- a reply that is done did not fail
-if-sent : (v : View) (b : Bool) (e : ℤ) (q : Plain) (d : Done) → plain v (if b then fails e else q) ≡ did d
+if-sent : (v : View) (b : Bool) (e : ℤ) (q : Plain) (d : Done) → plain v (when b then fails e else q) ≡ did d
     → plain v q ≡ did d
-unfolding plain if◌then◌else◌
+unfolding plain when◌then◌else◌
 if-sent v true e q d i = let z : ◌≡◌ {A = ℕ} 0 1 = cc in absurd (omega arith)
 if-sent v false e q d i = i
 
@@ -90,7 +90,7 @@ module _ (p : Platform) (t : Tables) (room h : ℕ) (q : Registers) (d : Done)
       (ap (λ (r : PlainRequest). plain (view t h) (plain_reply p (view t h) r)) (sym (if-false _ _ n)) ∙ e)))
     where
       ipi : q.a7 ≡ IPI → request q ≡ other (interrupt_request q)
-      ipi a7 = unfold request if◌then◌else◌ in rw a7 refl
+      ipi a7 = unfold request when◌then◌else◌ in rw a7 refl
 
       unknown-fails : plain (view t h) (plain_reply p (view t h) unknown) ≡ did d → ⊥
       unknown-fails e = unfold plain plain_reply in (let z : ◌≡◌ {A = ℕ} 0 1 = cc in omega arith)

@@ -7,7 +7,7 @@ use lib.Dec.{leb, eqb}
 use borrow.Author.Tests.{eqb-false, eqb-true}
 use Rattle.rules.specs.Sets.{all, bit, ones, every, those, names, keep}
 use Rattle.rules.specs.Platform.{hypervisor, width, enabled}
-use Rattle.rules.specs.Choice.{if◌then◌else◌}
+use Rattle.rules.specs.Choice.{when◌then◌else◌}
 use Rattle.rules.specs.Names.{harts, interrupt_kind, fence_kind, interrupt_sent, not_supported, invalid_param}
 use Rattle.rules.specs.Names.{invalid_address}
 use Rattle.rules.specs.Masks.{selected, selection_fits, is_reached, reached, send_to, selects, bit_fits, reaches}
@@ -63,10 +63,10 @@ module _ (p : Platform) (m base : ℕ) where
 
   pub hypervisors-by-hart : (f : ℕ) → selection_fits p m base ≡ true
       → hypervisors_fit p f (selected p m base)
-      ≡ if leb 3 f then every harts (λ h. not (selects p m base h) || hypervisor p h) else true
+      ≡ when leb 3 f then every harts (λ h. not (selects p m base h) || hypervisor p h) else true
   unfolding hypervisors_fit
   hypervisors-by-hart f fit =
-      ap (λ (b : Bool). if leb 3 f then b else true)
+      ap (λ (b : Bool). when leb 3 f then b else true)
       (ap (all (hypervisor p)) (selected-by-hart fit) ∙ all-those (hypervisor p) (selects p m base) harts)
 
 -- ----- the replies

@@ -10,7 +10,7 @@ use native.Mathlib.Nat.{le_of_suc-le-suc, not-suc-le-zero, eq-or-lt_of_le}
 use native.Mathlib.Numerals.{add-one}
 use native.Mathlib.Omega.{arith}
 use lib.ListN.{length, length-append}
-use Rattle.rules.specs.Choice.{if◌then◌else◌}
+use Rattle.rules.specs.Choice.{when◌then◌else◌}
 use Rattle.rules.specs.Sets.{every, those}
 use Rattle.rules.proofs.Logic.{if-true, if-false, if-both, by_cases, and_l, and_r, and-of}
 
@@ -91,7 +91,7 @@ those-in f (suc n) i l e =
     (eq-or-lt_of_le (le_of_suc-le-suc l))
 
 -- a list with one number, or none
-one-or-none : (f : ℕ → Bool) (n i : ℕ) → Memᴰ i (if f n then n ∷ [] else []) → (i < suc n) × (f i ≡ true)
+one-or-none : (f : ℕ → Bool) (n i : ℕ) → Memᴰ i (when f n then n ∷ [] else []) → (i < suc n) × (f i ≡ true)
 one-or-none f n i m =
     by_cases (f n)
     (λ e.

@@ -7,7 +7,7 @@ use lib.Dec.{eqb}
 use lib.ListN.{set, length, replicate, length-replicate}
 use lib.Seq.{get_or-set_same, get_or-set_other}
 use borrow.Author.Tests.{eqb-true, eqb-false}
-use Rattle.rules.specs.Choice.{if◌then◌else◌}
+use Rattle.rules.specs.Choice.{when◌then◌else◌}
 use Rattle.rules.specs.Names.{STARTED, STOPPED, harts}
 use Rattle.rules.specs.Platform.{enabled}
 use Rattle.rules.specs.Tables.{Tables, idle, hart_at, fresh, TablesWellFormed}
@@ -81,8 +81,8 @@ module _ (p : Platform) (h : ℕ) where
 
   track-lawful : (t : Tables) (j : ℕ) → length t.harts ≡ harts → (es : List Event) → Tracks h t.harts es
       → {rs : List InRow} {r : Reply} → Lawful p t.harts rs r
-      → Tracks h (commit t j r).harts (es ++ (if accepted r then of_hart h rs else []))
-  unfolding if◌then◌else◌ commit
+      → Tracks h (commit t j r).harts (es ++ (when accepted r then of_hart h rs else []))
+  unfolding when◌then◌else◌ commit
   track-lawful t j long es T l-refused = rw append-nil T
   track-lawful t j long es T l-failed = rw append-nil T
   track-lawful t j long es T (l-did e) = track-effect t.harts long es T e

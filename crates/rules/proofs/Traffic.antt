@@ -12,7 +12,7 @@ use Rattle.rules.specs.Replies.{failed, refused, moves, View, view, Done, Reply,
 use Rattle.rules.specs.Replies.{commit}
 use Rattle.rules.specs.Counting.{EventCounted, CountersOutliveStates, EventsCounted, TrafficCounted}
 use Rattle.rules.specs.Counting.{TrafficCountedExactly}
-use Rattle.rules.specs.Choice.{if◌then◌else◌}
+use Rattle.rules.specs.Choice.{when◌then◌else◌}
 use Rattle.rules.specs.Harts.{start_reply, stop_reply, suspend_reply, goes_on, done_reply, wake_reply}
 use Rattle.rules.specs.Requests.{LifeRequest, hart_start, hart_stop, hart_suspend, Request, life, other, request}
 use Rattle.rules.specs.Machine.{life_reply, request_reply, call, completion, waking, checked_reply, enabled_reply}
@@ -100,7 +100,7 @@ data CountersStay (v : View) : Reply → Type 0 where
   s-did : {d : Done} → d.own ≡ v.own → d.told ≡ [] → CountersStay v (did d)
 
 walk : {v : View} {b : Bool} {x y : Reply} → (b ≡ true → CountersStay v x) → (b ≡ false → CountersStay v y)
-    → CountersStay v (if b then x else y)
+    → CountersStay v (when b then x else y)
 walk {v} {b} f g = if-both (CountersStay v) b f g
 
 moves-stay : (v : View) (k : Bool) (acts : List Action) (hs : List Hart) → CountersStay v (moves v k acts hs)

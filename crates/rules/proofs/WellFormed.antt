@@ -8,7 +8,7 @@ use native.Mathlib.Omega.{arith}
 use lib.Dec.{ltb, leb, eqb}
 use lib.ListN.{length, get_or-eq_default}
 use borrow.Author.Tests.{ltb-true, leb-true, eqb-true, lt-ltb, le-ltb, le-leb, eq-eqb, not-true}
-use Rattle.rules.specs.Choice.{if◌then◌else◌}
+use Rattle.rules.specs.Choice.{when◌then◌else◌}
 use Rattle.rules.specs.Sets.{every}
 use Rattle.rules.specs.Names.{harts, counters, last_code, STOPPED, RESUME_PENDING}
 use Rattle.rules.specs.Platform.{has, enabled, hypervisor, width, used_ranges, range_accepted, platform_accepted}
@@ -136,7 +136,7 @@ pub blank-fine : CounterFine blank
 blank-fine = record { codes = λ e. zero-le; runs = λ e. e; canonical = λ e. refl }
 
 -- of an enabled hart's counter
-on-there : (c : Counter) → (if c.mapped then leb c.code last_code else (not c.running && eqb c.code 0)) ≡ true
+on-there : (c : Counter) → (when c.mapped then leb c.code last_code else (not c.running && eqb c.code 0)) ≡ true
     → CounterFine c
 on-there c e =
     by_cases c.mapped
@@ -154,7 +154,7 @@ on-there c e =
     })
 
 on-back : (c : Counter) → CounterFine c
-    → (if c.mapped then leb c.code last_code else (not c.running && eqb c.code 0)) ≡ true
+    → (when c.mapped then leb c.code last_code else (not c.running && eqb c.code 0)) ≡ true
 on-back c f =
     by_cases c.mapped
     (λ m. if-true _ _ m ∙ le-leb c.code last_code (f.codes m))

@@ -1,6 +1,6 @@
 -- Base: the version, the probe, and the numbers of the platform.
 use Rattle.std.specs.Prelude.{Bool, ◌||◌, ℕ, eqb}
-use Rattle.rules.specs.Choice.{if◌then◌else◌}
+use Rattle.rules.specs.Choice.{when◌then◌else◌}
 use Rattle.rules.specs.Names.{BASE, IPI, RFENCE, HSM, PMU}
 
 -- "version 3.0 is 50331648"
@@ -13,4 +13,4 @@ is_extension e = eqb e BASE || (eqb e IPI || (eqb e RFENCE || (eqb e HSM || eqb 
 
 -- what a probe of the extension e gives
 unfoldable pub probed : ℕ → ℕ
-probed e = if is_extension e then 1 else 0
+probed e = when is_extension e then 1 else 0

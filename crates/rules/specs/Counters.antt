@@ -3,7 +3,7 @@
 --   each f is cs          f at the counters with these numbers
 use Rattle.std.specs.Prelude.{Bool, true, false, not, ◌&&◌, ◌||◌, List, [], ◌∷◌, map, ℕ, ◌-◌, ◌^◌, ltb, leb, eqb, set}
 use Rattle.std.proofs.Math.Option.{Option, none, some}
-use Rattle.rules.specs.Choice.{if◌then◌else◌}
+use Rattle.rules.specs.Choice.{when◌then◌else◌}
 use Rattle.rules.specs.Sets.{bit, numbers, keep, all, first}
 use Rattle.rules.specs.Names.{counters, first_event, last_event, last_reported, not_reportable}
 use Rattle.rules.specs.Names.{not_supported, invalid_param, already_started, already_stopped}
@@ -43,7 +43,7 @@ not_running cs i = not (is_running cs i)
 -- ----- "Details: 2^63 for counters 0 to 7, else -3."
 
 unfoldable pub details_reply : List Counter → (i : ℕ) → Plain
-details_reply cs i = if not (is_counter i) then fails invalid_param else gives firmware_counter cs
+details_reply cs i = when not (is_counter i) then fails invalid_param else gives firmware_counter cs
 
 -- ----- configure
 
@@ -62,7 +62,7 @@ configured flags e c = record {
   mapped = true;
   code = e;
   running = bit flags 2 || c.running;
-  value = if bit flags 1 then 0 else c.value;
+  value = when bit flags 1 then 0 else c.value;
 }
 
 -- "The value returned is the counter."
@@ -73,10 +73,10 @@ configure_chosen flags e cs (some i) = gives i (set cs i (configured flags e (co
 -- "Configure: flags above bit 7 (-3), counters (-3), event (-2), event data (-3), match (-2)."
 unfoldable pub configure_reply : Platform → List Counter → (base mask flags event data' : ℕ) → Plain
 configure_reply p cs base m flags e d =
-    if leb (2 ^ 8) flags then fails invalid_param
-    else if not (all is_counter (counter_set p base m)) then fails invalid_param
-    else if not (is_event e) then fails not_supported
-    else if not (eqb d 0) then fails invalid_param
+    when leb (2 ^ 8) flags then fails invalid_param
+    else when not (all is_counter (counter_set p base m)) then fails invalid_param
+    else when not (is_event e) then fails not_supported
+    else when not (eqb d 0) then fails invalid_param
     else configure_chosen flags (e - first_event) cs (chosen flags cs (counter_set p base m))
 
 -- ----- start and stop: "All or none"
@@ -87,25 +87,25 @@ begun flags x c = record {
   mapped = c.mapped;
   code = c.code;
   running = true;
-  value = if bit flags 0 then x else c.value;
+  value = when bit flags 0 then x else c.value;
 }
 
 -- "Start: flags above bit 1 (-3), counters (-3), an unmapped counter (-3, house), bit 1 (-9), any
 -- running (-7)."
 unfoldable pub counter_start_reply : Platform → List Counter → (base mask flags initial : ℕ) → Plain
 counter_start_reply p cs base m flags x =
-    if leb (2 ^ 2) flags then fails invalid_param
-    else if not (all is_counter (counter_set p base m)) then fails invalid_param
-    else if not (all (is_mapped cs) (counter_set p base m)) then fails invalid_param
-    else if bit flags 1 then fails no_shared_memory
-    else if not (all (not_running cs) (counter_set p base m)) then fails already_started
+    when leb (2 ^ 2) flags then fails invalid_param
+    else when not (all is_counter (counter_set p base m)) then fails invalid_param
+    else when not (all (is_mapped cs) (counter_set p base m)) then fails invalid_param
+    else when bit flags 1 then fails no_shared_memory
+    else when not (all (not_running cs) (counter_set p base m)) then fails already_started
     else gives 0 (each (begun flags x) (counter_set p base m) cs)
 
 -- "Bit 0 also unmaps; the value stays."
 unfoldable pub ended : (flags : ℕ) → Counter → Counter
 ended flags c = record {
   mapped = c.mapped && not (bit flags 0);
-  code = if bit flags 0 then 0 else c.code;
+  code = when bit flags 0 then 0 else c.code;
   running = false;
   value = c.value;
 }
@@ -113,10 +113,10 @@ ended flags c = record {
 -- "Stop: flags above bit 1 (-3), counters (-3), bit 1 (-9), any not running (-8)."
 unfoldable pub counter_stop_reply : Platform → List Counter → (base mask flags : ℕ) → Plain
 counter_stop_reply p cs base m flags =
-    if leb (2 ^ 2) flags then fails invalid_param
-    else if not (all is_counter (counter_set p base m)) then fails invalid_param
-    else if bit flags 1 then fails no_shared_memory
-    else if not (all (is_running cs) (counter_set p base m)) then fails already_stopped
+    when leb (2 ^ 2) flags then fails invalid_param
+    else when not (all is_counter (counter_set p base m)) then fails invalid_param
+    else when bit flags 1 then fails no_shared_memory
+    else when not (all (is_running cs) (counter_set p base m)) then fails already_stopped
     else gives 0 (each (ended flags) (counter_set p base m) cs)
 
 -- ----- "Read (FID 5): over 7 or unmapped is -3 (house), never a zero. High read (FID 6): the same
@@ -129,16 +129,16 @@ can_read cs i = is_counter i && is_mapped cs i
 -- the reply to a read: the value
 unfoldable pub read_reply : List Counter → (i : ℕ) → Plain
 read_reply cs i =
-    if not (can_read cs i) then fails invalid_param
+    when not (can_read cs i) then fails invalid_param
     else gives (counter_at cs i).value cs
 
 -- the reply to a high read: 0
 unfoldable pub read_high_reply : List Counter → (i : ℕ) → Plain
-read_high_reply cs i = if not (can_read cs i) then fails invalid_param else gives 0 cs
+read_high_reply cs i = when not (can_read cs i) then fails invalid_param else gives 0 cs
 
 -- ----- reported events: "The host reports codes 0 to 5"; a code over 5 is H6
 
 unfoldable pub event_reply : View → (code : ℕ) → Reply
 event_reply v e =
-    if not (leb e last_reported) then refused not_reportable
+    when not (leb e last_reported) then refused not_reportable
     else plain v (gives 0 (map (counted e) v.own))

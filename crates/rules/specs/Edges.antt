@@ -1,7 +1,7 @@
 -- "Edges worked through": the twelve that are proved, as one table. `EdgesHold` of `Promises` is
 -- the statement.
 use Rattle.std.specs.Prelude.{List, [], ◌∷◌, map, ℕ, ◌-◌, ◌^◌, ℤ, replicate}
-use Rattle.rules.specs.Choice.{if◌then◌else◌}
+use Rattle.rules.specs.Choice.{when◌then◌else◌}
 use Rattle.rules.specs.Sets.{bit, every, those, numbers, first, keep, all, any}
 use Rattle.rules.specs.Names.{IPI, RFENCE, HSM, PMU, success, not_supported, invalid_param}
 use Rattle.rules.specs.Names.{invalid_address, already_available, action_memory}
@@ -147,7 +147,7 @@ edges =
 
 -- what the rules show for each edge, all definitions opened
 unfoldable pub computed : List Edge → List Shown
-unfolding if◌then◌else◌ bit every those numbers first keep all any has enabled hypervisor used_ranges lies_in valid_address range_accepted platform_accepted hart_at own_at counter_at fresh is_idle is_blank hart_well_formed counter_well_formed shaped hart_row_well_formed tables_well_formed well_formed view moves plain counted count_at tell_one tell commit selected selection_fits is_reached reached send_to sent_code id_valid hypervisors_fit range_valid interrupt_reply fence_reply done_of suspend_of start_reply suspend_reply goes_on done_reply counter_set is_counter each is_mapped is_running not_running is_event chosen configured configure_chosen configure_reply begun counter_start_reply can_read read_reply event_reply interrupt_request fence_request hart_request counter_request request life_reply plain_reply request_reply enabled_reply checked_reply reply after shown_by
+unfolding when◌then◌else◌ bit every those numbers first keep all any has enabled hypervisor used_ranges lies_in valid_address range_accepted platform_accepted hart_at own_at counter_at fresh is_idle is_blank hart_well_formed counter_well_formed shaped hart_row_well_formed tables_well_formed well_formed view moves plain counted count_at tell_one tell commit selected selection_fits is_reached reached send_to sent_code id_valid hypervisors_fit range_valid interrupt_reply fence_reply done_of suspend_of start_reply suspend_reply goes_on done_reply counter_set is_counter each is_mapped is_running not_running is_event chosen configured configure_chosen configure_reply begun counter_start_reply can_read read_reply event_reply interrupt_request fence_request hart_request counter_request request life_reply plain_reply request_reply enabled_reply checked_reply reply after shown_by
 computed es = map
     (λ (e : Edge). shown_by
     (reply (platform_of e.harts)

@@ -1,7 +1,7 @@
 -- Firmware events and what fences hand on, by the standard's names, and how often an event is
 -- counted. In specs/ only the promises cite this file.
 use Rattle.std.specs.Prelude.{List, [], ◌∷◌, ℕ, zero, suc, eqb}
-use Rattle.rules.specs.Choice.{if◌then◌else◌}
+use Rattle.rules.specs.Choice.{when◌then◌else◌}
 use Rattle.rules.specs.Fences.{Fence, fence_i, sfence_vma, sfence_vma_asid}
 use Rattle.rules.specs.Fences.{hfence_gvma_vmid, hfence_gvma, hfence_vvma_asid, hfence_vvma}
 use Rattle.rules.specs.declared.answers.Registers.{Registers}
@@ -56,9 +56,9 @@ times (suc n) f c = times n f (f c)
 -- how many of some harts are not h
 unfoldable pub others : ℕ → List ℕ → ℕ
 others h [] = 0
-others h (k ∷ ks) = if eqb k h then others h ks else suc (others h ks)
+others h (k ∷ ks) = when eqb k h then others h ks else suc (others h ks)
 
 -- how many of some harts are k
 unfoldable pub occurs : ℕ → List ℕ → ℕ
 occurs k [] = 0
-occurs k (j ∷ ks) = if eqb j k then suc (occurs k ks) else occurs k ks
+occurs k (j ∷ ks) = when eqb j k then suc (occurs k ks) else occurs k ks

@@ -1,7 +1,7 @@
 -- Interrupts and remote fences. "Fences FID 0 to 6: FENCE.I, SFENCE.VMA, SFENCE.VMA ASID,
 -- HFENCE.GVMA VMID, HFENCE.GVMA, HFENCE.VVMA ASID, HFENCE.VVMA."
 use Rattle.std.specs.Prelude.{Bool, true, not, ◌&&◌, ◌||◌, List, [], ◌∷◌, ℕ, ◌+◌, ◌^◌, ltb, leb, eqb, get_or}
-use Rattle.rules.specs.Choice.{if◌then◌else◌}
+use Rattle.rules.specs.Choice.{when◌then◌else◌}
 use Rattle.rules.specs.Sets.{ones, all}
 use Rattle.rules.specs.Names.{interrupt_kind, fence_kind, interrupt_sent, not_supported}
 use Rattle.rules.specs.Names.{invalid_param, invalid_address}
@@ -36,13 +36,13 @@ sent_code f = get_or sent_codes f 0
 -- "ASID or VMID below 2^width": FID 2 and 5 have an ASID, FID 3 a VMID, the others none
 unfoldable pub id_valid : Platform → (fid id : ℕ) → Bool
 id_valid p f i =
-    if eqb f 2 || eqb f 5 then ltb i (2 ^ p.asid)
-    else if eqb f 3 then ltb i (2 ^ p.vmid)
+    when eqb f 2 || eqb f 5 then ltb i (2 ^ p.asid)
+    else when eqb f 3 then ltb i (2 ^ p.vmid)
     else true
 
 -- "hypervisor extension on every selected hart for FID 3 to 6"
 unfoldable pub hypervisors_fit : Platform → (fid : ℕ) → (selected : List ℕ) → Bool
-hypervisors_fit p f hs = if leb 3 f then all (hypervisor p) hs else true
+hypervisors_fit p f hs = when leb 3 f then all (hypervisor p) hs else true
 
 -- "The range is the whole space if start and size are both 0, or size is 2^64 - 1 with any start.
 -- Otherwise start + size may be at most 2^64. Size 0 with another start is accepted as it stands
@@ -53,7 +53,7 @@ range_valid w s n = (eqb s 0 && eqb n 0) || (eqb n (ones w) || leb (s + n) (2 ^ 
 -- an interrupt: "any selected number not enabled gives -3"; "2 interrupt (three zeros)"
 unfoldable pub interrupt_reply : Platform → View → (mask base : ℕ) → Plain
 interrupt_reply p v m base =
-    if not (selection_fits p m base) then fails invalid_param
+    when not (selection_fits p m base) then fails invalid_param
     else send_to interrupt_kind 0 0 0 interrupt_sent (reached p v.harts m base)
 
 -- "Order: harts (-3), ASID or VMID below 2^width (-3), hypervisor extension on every selected hart
@@ -61,8 +61,8 @@ interrupt_reply p v m base =
 -- unaltered". "The caller's VMID for FID 5 and 6 is the host's to add (house)."
 unfoldable pub fence_reply : Platform → View → (fid mask base start size id : ℕ) → Plain
 fence_reply p v f m base s n i =
-    if not (selection_fits p m base) then fails invalid_param
-    else if not (id_valid p f i) then fails invalid_param
-    else if not (hypervisors_fit p f (selected p m base)) then fails not_supported
-    else if not (range_valid (width p) s n) then fails invalid_address
+    when not (selection_fits p m base) then fails invalid_param
+    else when not (id_valid p f i) then fails invalid_param
+    else when not (hypervisors_fit p f (selected p m base)) then fails not_supported
+    else when not (range_valid (width p) s n) then fails invalid_address
     else send_to (fence_kind + f) s n i (sent_code f) (reached p v.harts m base)

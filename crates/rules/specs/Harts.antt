@@ -1,6 +1,6 @@
 -- Hart states: start, stop, status and suspend, completions and wakes.
 use Rattle.std.specs.Prelude.{Bool, true, false, not, List, [], ◌∷◌, ℕ, eqb, set}
-use Rattle.rules.specs.Choice.{if◌then◌else◌}
+use Rattle.rules.specs.Choice.{when◌then◌else◌}
 use Rattle.rules.specs.Names.{STARTED, STOPPED, START_PENDING, STOP_PENDING, SUSPENDED}
 use Rattle.rules.specs.Names.{SUSPEND_PENDING, RESUME_PENDING, retentive_type}
 use Rattle.rules.specs.Names.{non_retentive_type, invalid_param, invalid_address}
@@ -20,20 +20,20 @@ use Rattle.rules.specs.declared.actions.Action.{Action}
 -- "Done: 2 to 0, 3 to 1, 5 to 4, 6 to 0."
 unfoldable pub done_of : Hart → Next
 done_of x =
-    if eqb x.state START_PENDING then To (in_state x STARTED)
-    else if eqb x.state STOP_PENDING then To (in_state x STOPPED)
-    else if eqb x.state SUSPEND_PENDING then To (in_state x SUSPENDED)
-    else if eqb x.state RESUME_PENDING then To (in_state x STARTED)
+    when eqb x.state START_PENDING then To (in_state x STARTED)
+    else when eqb x.state STOP_PENDING then To (in_state x STOPPED)
+    else when eqb x.state SUSPEND_PENDING then To (in_state x SUSPENDED)
+    else when eqb x.state RESUME_PENDING then To (in_state x STARTED)
     else Forbidden
 
 -- "Wake: 4 to 6 only."
 unfoldable pub wake_of : Hart → Next
-wake_of x = if eqb x.state SUSPENDED then To (in_state x RESUME_PENDING) else Forbidden
+wake_of x = when eqb x.state SUSPENDED then To (in_state x RESUME_PENDING) else Forbidden
 
 -- "An accepted suspend writes the sleep note (retentive, 0, 0 for type 0); nothing else alters it."
 unfoldable pub suspend_of : (retentive : Bool) → (address opaque : ℕ) → Hart
 suspend_of r a o =
-    if r then idle SUSPEND_PENDING
+    when r then idle SUSPEND_PENDING
     else record { state = SUSPEND_PENDING; retentive = false; address = a; opaque = o }
 
 -- ----- calls
@@ -42,9 +42,9 @@ suspend_of r a o =
 -- (-5). To START_PENDING." "An accepted start gives one action of kind 1 for its target"
 unfoldable pub start_reply : Platform → View → (target address opaque : ℕ) → Reply
 start_reply p v k a o =
-    if not (enabled p k) then failed invalid_param
-    else if not (eqb (state_of v.harts k) STOPPED) then failed already_available
-    else if not (valid_address p a) then failed invalid_address
+    when not (enabled p k) then failed invalid_param
+    else when not (eqb (state_of v.harts k) STOPPED) then failed already_available
+    else when not (valid_address p a) then failed invalid_address
     else moves v false (enter k a o ∷ [])
     (set v.harts k (in_state (hart_at v.harts k) START_PENDING))
 
@@ -56,16 +56,16 @@ stop_reply v h = moves v true [] (set v.harts h (in_state (hart_at v.harts h) ST
 -- "Status (FID 2). -3 for a hart not enabled, else its state."
 unfoldable pub status_reply : Platform → View → (target : ℕ) → Plain
 status_reply p v k =
-    if not (enabled p k) then fails invalid_param
+    when not (enabled p k) then fails invalid_param
     else gives (state_of v.harts k) v.own
 
 -- "Type 0 is retentive and ignores the address; type 0x80000000 is not. Every other type is -3 ..
 -- Then, for the non-retentive type, address (-5). To SUSPEND_PENDING; 0, 0, parked."
 unfoldable pub suspend_reply : Platform → View → (h type address opaque : ℕ) → Reply
 suspend_reply p v h y a o =
-    if eqb y retentive_type then moves v true [] (set v.harts h (suspend_of true a o))
-    else if not (eqb y non_retentive_type) then failed invalid_param
-    else if not (valid_address p a) then failed invalid_address
+    when eqb y retentive_type then moves v true [] (set v.harts h (suspend_of true a o))
+    else when not (eqb y non_retentive_type) then failed invalid_param
+    else when not (valid_address p a) then failed invalid_address
     else moves v true [] (set v.harts h (suspend_of false a o))
 
 -- ----- completions and wakes of hart h: H5 where its state does not allow one
@@ -78,7 +78,7 @@ goes_on v h acts Forbidden = refused state_forbids
 -- "a wake from non-retentive sleep gives one [action] for that hart with its stored address and
 -- opaque. Nothing else gives any."
 unfoldable pub wake_actions : (h : ℕ) → Hart → List Action
-wake_actions h x = if x.retentive then [] else enter h x.address x.opaque ∷ []
+wake_actions h x = when x.retentive then [] else enter h x.address x.opaque ∷ []
 
 -- the reply to a completion
 unfoldable pub done_reply : View → (h : ℕ) → Reply

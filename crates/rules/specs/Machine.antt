@@ -9,7 +9,7 @@ use Rattle.rules.specs.Platform.{platform_accepted, enabled}
 use Rattle.rules.specs.Tables.{fresh, Tables, state_of, well_formed}
 use Rattle.rules.specs.Names.{success, action_memory, counters, STARTED, not_supported}
 use Rattle.rules.specs.Names.{not_well_formed, not_enabled, not_started, short_memory}
-use Rattle.rules.specs.Choice.{if◌then◌else◌}
+use Rattle.rules.specs.Choice.{when◌then◌else◌}
 use Rattle.rules.specs.Replies.{View, view, Reply, refused, Plain, fails, gives, plain}
 use Rattle.rules.specs.Replies.{commit}
 use Rattle.rules.specs.Base.{spec_version, probed}
@@ -90,7 +90,7 @@ is_short (event h e) = false
 -- H3, H5 and H6, and what else there is to answer
 unfoldable pub enabled_reply : Platform → View → Operation → Reply
 enabled_reply p v (call room h r) =
-    if not (eqb (state_of v.harts h) STARTED) then refused not_started
+    when not (eqb (state_of v.harts h) STARTED) then refused not_started
     else request_reply p v h (request r)
 enabled_reply p v (completion room h) = done_reply v h
 enabled_reply p v (waking room h) = wake_reply v h
@@ -99,13 +99,13 @@ enabled_reply p v (event h e) = event_reply v e
 -- on tables that are well formed: H4, H2, then the rest
 unfoldable pub checked_reply : Platform → Tables → Operation → Reply
 checked_reply p t op =
-    if is_short op then refused short_memory
-    else if not (enabled p (hart_of op)) then refused not_enabled
+    when is_short op then refused short_memory
+    else when not (enabled p (hart_of op)) then refused not_enabled
     else enabled_reply p (view t (hart_of op)) op
 
 -- "Host refusals come instead of a pair, tested in this order": H1, H4, H2, H3, H5, H6
 unfoldable pub reply : Platform → Tables → Operation → Reply
-reply p t op = if not (well_formed p t) then refused not_well_formed else checked_reply p t op
+reply p t op = when not (well_formed p t) then refused not_well_formed else checked_reply p t op
 
 -- ----- the tables after
 
@@ -122,10 +122,10 @@ after_all p t (op ∷ ops) = after_all p (after p t op) ops
 
 -- the lent tables after they were made fresh
 unfoldable pub fresh_over : Platform → Tables → Tables
-fresh_over p t = if not (platform_accepted p) then t else fresh p
+fresh_over p t = when not (platform_accepted p) then t else fresh p
 
 -- the answer to that
 unfoldable pub fresh_answer : Platform → Answer
 fresh_answer p =
-    if not (platform_accepted p) then Refused not_well_formed
+    when not (platform_accepted p) then Refused not_well_formed
     else Pair success 0 false 0

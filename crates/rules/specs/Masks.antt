@@ -1,7 +1,7 @@
 -- Which harts a mask selects, which of them are reached, and the actions for them.
 use Rattle.std.specs.Prelude.{Bool, not, ◌||◌, ◌&&◌, List, map, ◌+◌, ℕ, eqb}
 use Rattle.rules.specs.Sets.{bit, names, those, numbers, ones, keep, all}
-use Rattle.rules.specs.Choice.{if◌then◌else◌}
+use Rattle.rules.specs.Choice.{when◌then◌else◌}
 use Rattle.rules.specs.Names.{harts, STOPPED, STOP_PENDING}
 use Rattle.rules.specs.Platform.{width, enabled}
 use Rattle.rules.specs.Tables.{state_of}
@@ -14,7 +14,7 @@ use Rattle.rules.specs.declared.actions.Action.{Action}
 -- selects hart base + i, summed without wrapping .. Mask 0 selects nobody and succeeds."
 unfoldable pub selected : Platform → (mask base : ℕ) → List ℕ
 selected p m base =
-    if eqb base (ones (width p)) then those harts (enabled p)
+    when eqb base (ones (width p)) then those harts (enabled p)
     else numbers (width p) base m
 
 -- "any selected number not enabled gives -3"
@@ -48,7 +48,7 @@ bit_fits p m base i = not (bit m i) || enabled p (base + i)
 -- hart h is selected
 unfoldable pub selects : Platform → (mask base h : ℕ) → Bool
 selects p m base h =
-    if eqb base (ones (width p)) then enabled p h
+    when eqb base (ones (width p)) then enabled p h
     else names (width p) base m h
 
 -- hart h is selected and reached

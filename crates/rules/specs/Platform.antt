@@ -7,7 +7,7 @@
 --   platform_accepted p    no ground of H1 holds against it; `PlatformAccepted` says the same
 use Rattle.std.specs.Prelude.{◌≡◌, Bool, true, false, not, ◌&&◌, ◌||◌, ℕ, ◌+◌, ◌-◌, ◌^◌, ◌%◌, ◌<◌, ◌≤◌, ltb, leb, eqb, take}
 use mathlib.Core.List.{List, Memᴰ}
-use Rattle.rules.specs.Choice.{if◌then◌else◌}
+use Rattle.rules.specs.Choice.{when◌then◌else◌}
 use Rattle.rules.specs.Sets.{bit, every, all, any}
 use Rattle.rules.specs.Names.{harts, max_ranges, max_asid_width, max_vmid_width}
 use Rattle.rules.specs.declared.platform.HartSet.{HartSet}
@@ -16,7 +16,7 @@ use Rattle.rules.specs.declared.platform.Platform.{Platform}
 
 -- "Hart numbers 0 to 127": bit h of the low word, bit h - 64 of the high one
 unfoldable pub has : HartSet → ℕ → Bool
-has s h = if ltb h 64 then bit s.low h else if ltb h harts then bit s.high (h - 64) else false
+has s h = when ltb h 64 then bit s.low h else when ltb h harts then bit s.high (h - 64) else false
 
 -- hart h is enabled
 unfoldable pub enabled : Platform → ℕ → Bool

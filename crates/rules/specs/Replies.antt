@@ -8,7 +8,7 @@
 --   front_of          the front part of the action memory that the host gets back
 --   memory_after      the action memory after a reply
 use Rattle.std.specs.Prelude.{Bool, true, false, ◌&&◌, List, [], ◌∷◌, ◌++◌, map, ℕ, suc, ◌+◌, ◌-◌, ◌^◌, ◌%◌, eqb, ℤ, pos, negsuc, get_or, set, length, drop}
-use Rattle.rules.specs.Choice.{if◌then◌else◌}
+use Rattle.rules.specs.Choice.{when◌then◌else◌}
 use Rattle.rules.specs.Names.{success, enter_kind}
 use Rattle.rules.specs.Tables.{Tables, own_at}
 use Rattle.rules.specs.declared.records.Hart.{Hart}
@@ -101,7 +101,7 @@ plain v (sends acts c ks) = did
 -- the counter c after an event of this code
 unfoldable pub counted : (code : ℕ) → Counter → Counter
 counted e c =
-    if c.running && (c.mapped && eqb c.code e)
+    when c.running && (c.mapped && eqb c.code e)
     then record {
       mapped = c.mapped;
       code = c.code;
@@ -117,7 +117,7 @@ count_at h e t = set t h (map (counted e) (get_or t h []))
 -- "For each reached hart other than the caller, the caller has one sent event and the target one
 -- received event. Received is sent + 1."
 unfoldable pub tell_one : (h code k : ℕ) → List (List Counter) → List (List Counter)
-tell_one h e k t = if eqb k h then t else count_at k (e + 1) (count_at h e t)
+tell_one h e k t = when eqb k h then t else count_at k (e + 1) (count_at h e t)
 
 -- the events of these harts, one after another
 unfoldable pub tell : (h code : ℕ) → (told : List ℕ) → List (List Counter) → List (List Counter)

@@ -1,6 +1,6 @@
 -- What stands in whose row, and what demand 3 asks of an event besides that it fits.
 use Rattle.std.specs.Prelude.{Bool, true, ◌&&◌, ◌||◌, List, [], ◌∷◌, ◌++◌, ℕ, leb, eqb}
-use Rattle.rules.specs.Choice.{if◌then◌else◌}
+use Rattle.rules.specs.Choice.{when◌then◌else◌}
 use Rattle.rules.specs.Names.{STARTED, action_memory, retentive_type, non_retentive_type}
 use Rattle.rules.specs.Platform.{valid_address}
 use Rattle.rules.specs.Tables.{Tables, state_of, fresh}
@@ -38,11 +38,11 @@ event_of (event h e) = []
 -- those that stand in the row of h
 abbrev pub of_hart : ℕ → List InRow → List Event
 of_hart h [] = []
-of_hart h (k does e ∷ es) = if eqb h k then e ∷ of_hart h es else of_hart h es
+of_hart h (k does e ∷ es) = when eqb h k then e ∷ of_hart h es else of_hart h es
 
 -- what an operation adds to the row of h: nothing unless it is accepted
 unfoldable pub adds : Platform → ℕ → Tables → Operation → List Event
-adds p h t op = if accepted (reply p t op) then of_hart h (event_of op) else []
+adds p h t op = when accepted (reply p t op) then of_hart h (event_of op) else []
 
 -- what a history adds to the row of h
 abbrev pub row_of : Platform → ℕ → Tables → List Operation → List Event
@@ -51,7 +51,7 @@ row_of p h t (op ∷ ops) = adds p h t op ++ row_of p h (after p t op) ops
 
 -- "The boot hart counts as already past its first start and done." (demand 3)
 unfoldable pub prior : Platform → ℕ → List Event
-prior p h = if eqb h p.boot then start ∷ done ∷ [] else []
+prior p h = when eqb h p.boot then start ∷ done ∷ [] else []
 
 -- the tables after a history from fresh
 abbrev pub tables_now : Platform → List Operation → Tables

@@ -12,7 +12,7 @@
 -- the first, if any
 use Rattle.std.specs.Prelude.{Bool, true, false, ◌&&◌, ◌||◌, List, [], ◌∷◌, ◌++◌, map, ℕ, zero, suc, ◌+◌, ◌-◌, ◌^◌, ◌/◌, ◌%◌, ◌≤◌, eqb, ltb, leb}
 use Rattle.std.proofs.Math.Option.{Option, none, some}
-use Rattle.rules.specs.Choice.{if◌then◌else◌}
+use Rattle.rules.specs.Choice.{when◌then◌else◌}
 
 -- bit i of m is set
 unfoldable pub bit : ℕ → ℕ → Bool
@@ -30,7 +30,7 @@ every (suc n) f = every n f && f n
 -- the numbers below n at which f holds, ascending
 unfoldable pub those : ℕ → (ℕ → Bool) → List ℕ
 those zero f = []
-those (suc n) f = those n f ++ (if f n then n ∷ [] else [])
+those (suc n) f = those n f ++ (when f n then n ∷ [] else [])
 
 -- "bit i selects hart base + i, summed without wrapping"; "bit i is counter base + i without
 -- wrapping"
@@ -58,7 +58,7 @@ first (x ∷ xs) = some x
 module _ {A : Type 0} where
   unfoldable pub keep : (A → Bool) → List A → List A
   keep f [] = []
-  keep f (x ∷ xs) = if f x then x ∷ keep f xs else keep f xs
+  keep f (x ∷ xs) = when f x then x ∷ keep f xs else keep f xs
 
   unfoldable pub all : (A → Bool) → List A → Bool
   all f [] = true

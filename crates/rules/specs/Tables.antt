@@ -9,7 +9,7 @@
 --   tables_well_formed p t   no ground of H1 holds against them; `TablesWellFormed` says the same
 --                          as a statement
 use Rattle.std.specs.Prelude.{◌≡◌, Bool, true, false, not, ◌&&◌, List, [], ℕ, ◌≤◌, ◌<◌, leb, eqb, get_or, set, length, replicate}
-use Rattle.rules.specs.Choice.{if◌then◌else◌}
+use Rattle.rules.specs.Choice.{when◌then◌else◌}
 use Rattle.rules.specs.Sets.{every}
 use Rattle.rules.specs.Names.{harts, counters, last_code, STARTED, STOPPED, RESUME_PENDING}
 use Rattle.rules.specs.Platform.{enabled, platform_accepted}
@@ -73,12 +73,12 @@ is_blank c = not c.mapped && (eqb c.code 0 && (not c.running && eqb c.value 0))
 
 -- of a hart that is enabled or not
 unfoldable pub hart_well_formed : Bool → Hart → Bool
-hart_well_formed on x = if on then leb x.state RESUME_PENDING else is_idle x
+hart_well_formed on x = when on then leb x.state RESUME_PENDING else is_idle x
 
 -- the code of an unmapped counter is written 0: there is one form of unmapped
 unfoldable pub counter_well_formed : Bool → Counter → Bool
 counter_well_formed on c =
-    if on then (if c.mapped then leb c.code last_code else (not c.running && eqb c.code 0))
+    when on then (when c.mapped then leb c.code last_code else (not c.running && eqb c.code 0))
     else is_blank c
 
 -- a record for each of 128 harts, and eight counters for each

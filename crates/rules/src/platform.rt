@@ -1,6 +1,6 @@
 // The platform record: what a module is made of, by value.
 ghost use Rattle.std.specs.Prelude.{◌≡◌, not, ◌||◌, ◌<◌, ltb, take};
-ghost use Rattle.rules.specs.Choice.{if◌then◌else◌};
+ghost use Rattle.rules.specs.Choice.{when◌then◌else◌};
 ghost use Rattle.rules.specs.Names.{harts};
 ghost use Rattle.rules.specs.Sets.{bit, every, all, any};
 ghost use Rattle.rules.specs.Platform.{has, enabled, hypervisor};
@@ -99,7 +99,7 @@ impl Range {
 
 // How many of the eight ranges are looked at.
 fn looked_at(used: u64) -> usize
-    ensures { result ≡ if ltb used 8 then used else 8 }
+    ensures { result ≡ when ltb used 8 then used else 8 }
 {
     if used < MAX_RANGES {
         return used as usize;

@@ -2,7 +2,7 @@
 use Rattle.std.proofs.Common.{◌≡◌, ℕ, zero, suc, ◌+◌, ◌^◌, ◌<◌, Bool, true, false, eqb, List, [], map, length, get_or, set, replicate, sym, refl, ap, ◌∙◌, subst, ap₂, not-suc-le-zero, arith, lit<, length-set, get_or-set_other, get_or-set_same, ext_get_or, eq-eqb, ne_eqb}
 use native.Mathlib.Decide.{ℕ_discrete}
 use lib.ListN.{length-replicate, get_or-replicate}
-use Rattle.rules.specs.Choice.{if◌then◌else◌}
+use Rattle.rules.specs.Choice.{when◌then◌else◌}
 use Rattle.rules.specs.Names.{STARTED, STOPPED}
 use Rattle.rules.specs.Tables.{idle, blank, fresh}
 use Rattle.rules.specs.declared.platform.Platform.{Platform}
@@ -40,18 +40,18 @@ module _ (boot : ℕ) (t : List (List ℕ)) where
 
 -- ----- what fresh rows hold
 
-fresh-hart : (b : Bool) → hart_in (fresh_row b) ≡ (if b then idle STARTED else idle STOPPED)
-unfolding hart_in state_in if◌then◌else◌
+fresh-hart : (b : Bool) → hart_in (fresh_row b) ≡ (when b then idle STARTED else idle STOPPED)
+unfolding hart_in state_in when◌then◌else◌
 fresh-hart true = refl
 fresh-hart false = refl
 
 fresh-own : (b : Bool) → counters_in (fresh_row b) ≡ replicate 8 blank
-unfolding counters_in table counter_in byte counter_of if◌then◌else◌
+unfolding counters_in table counter_in byte counter_of when◌then◌else◌
 fresh-own true = refl
 fresh-own false = refl
 
 fresh-small : (b : Bool) (i : ℕ) → get_or (fresh_row b) i 0 < 2 ^ 64
-unfolding if◌then◌else◌
+unfolding when◌then◌else◌
 fresh-small true zero = lit< tt
 fresh-small false zero = lit< tt
 fresh-small b (suc i) = zeros 11 i
@@ -68,7 +68,7 @@ module _ (boot : ℕ) (b : boot < 128) where
   abbrev begun : List Hart
   begun = set (replicate 128 (idle STOPPED)) boot (idle STARTED)
 
-  begun-at : (i : ℕ) → i < 128 → (if eqb i boot then idle STARTED else idle STOPPED) ≡ get_or begun i (idle STOPPED)
+  begun-at : (i : ℕ) → i < 128 → (when eqb i boot then idle STARTED else idle STOPPED) ≡ get_or begun i (idle STOPPED)
   begun-at i l =
       elim (ℕ_discrete i boot) [
         | yes z ↦ if-true _ _ (eq-eqb i boot z)

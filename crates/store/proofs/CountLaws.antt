@@ -3,7 +3,7 @@
 --   counted_to n r e      the row with its first n counters counted
 use Rattle.std.proofs.Common.{◌≡◌, ℕ, zero, suc, ◌+◌, ◌-◌, ◌/◌, ◌%◌, ◌^◌, ◌<◌, ◌≤◌, true, false, ◌&&◌, eqb, List, map, length, get_or, set, sym, refl, ap, ◌∙◌, subst, ap₂, ⊎_elim, le_of_suc-le-suc, not-suc-le-zero, mod-lt, eq-or-lt_of_le, arith, lit<, get_or-set_other, get_or-set_same, eq-eqb, ne_eqb, eqb-true}
 use borrow.Author.Tests.{eqb-false}
-use Rattle.rules.specs.Choice.{if◌then◌else◌}
+use Rattle.rules.specs.Choice.{when◌then◌else◌}
 use Rattle.rules.specs.Replies.{counted}
 use Rattle.rules.specs.declared.records.Counter.{Counter}
 use Rattle.rules.proofs.Logic.{if-true, if-false, if-both, by_cases}
@@ -14,7 +14,7 @@ use Rattle.store.proofs.RowLaws.{fit-set, of_none, of-stopped, of-running, kinds
 
 unfoldable pub counted_one : List ℕ → ℕ → ℕ → List ℕ
 counted_one r i e =
-    if eqb (byte (get_or r 3 0) i) (e + 23) then set r (4 + i) ((get_or r (4 + i) 0 + 1) % 2 ^ 64) else r
+    when eqb (byte (get_or r 3 0) i) (e + 23) then set r (4 + i) ((get_or r (4 + i) 0 + 1) % 2 ^ 64) else r
 
 unfoldable pub counted_to : ℕ → List ℕ → ℕ → List ℕ
 counted_to zero r e = r
@@ -24,7 +24,7 @@ counted_to (suc n) r e = counted_one (counted_to n r e) n e
 
 module _ (b e : ℕ) where
   next : ℕ → ℕ
-  next v = if eqb b (e + 23) then (v + 1) % 2 ^ 64 else v
+  next v = when eqb b (e + 23) then (v + 1) % 2 ^ 64 else v
 
   miss : (v : ℕ) → b < 23 → next v ≡ v
   unfolding next

@@ -2,7 +2,7 @@
 --   with_counter r i c    the row r with counter i put anew
 use Rattle.std.proofs.Common.{◌≡◌, ℕ, ◌+◌, ◌-◌, ◌^◌, ◌<◌, ◌≤◌, Bool, true, false, List, get_or, set, sym, refl, ap, ◌∙◌, subst, ap₂, arith, length-set, get_or-set_other, get_or-set_same, ext_get_or}
 use native.Mathlib.Decide.{ℕ_discrete}
-use Rattle.rules.specs.Choice.{if◌then◌else◌}
+use Rattle.rules.specs.Choice.{when◌then◌else◌}
 use Rattle.rules.specs.Tables.{blank, CounterFine}
 use Rattle.rules.specs.declared.records.Counter.{Counter}
 use Rattle.rules.proofs.Logic.{false-true}
@@ -13,7 +13,7 @@ use Rattle.store.proofs.RowLaws.{fit-set, eight, of_none, of-stopped, of-running
 
 module _ (c : Counter) (k : CounterFine c) where
   pub control-back : counter_of (control_of c) c.value ≡ c
-  unfolding if◌then◌else◌
+  unfolding when◌then◌else◌
   control-back = go c.mapped c.running refl refl
     where
       go : (m r : Bool) → c.mapped ≡ m → c.running ≡ r → counter_of (control_of c) c.value ≡ c
@@ -33,7 +33,7 @@ module _ (c : Counter) (k : CounterFine c) where
           (sym (k.canonical p)))
 
   pub control-small : control_of c ≤ 44
-  unfolding if◌then◌else◌
+  unfolding when◌then◌else◌
   control-small = go c.mapped c.running refl refl
     where
       go : (m r : Bool) → c.mapped ≡ m → c.running ≡ r → control_of c ≤ 44

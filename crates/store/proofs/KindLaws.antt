@@ -3,7 +3,7 @@ use Rattle.std.proofs.Common.{◌≡◌, ℕ, zero, suc, ◌+◌, ◌-◌, ◌*�
 use lib.Bits.{bit_and, bit_or, and_le_r}
 use lib.Count.{count_trailing_zeros}
 use borrow.Author.Tests.{lt-leb}
-use Rattle.rules.specs.Choice.{if◌then◌else◌}
+use Rattle.rules.specs.Choice.{when◌then◌else◌}
 use Rattle.rules.specs.Sets.{bit, those, first}
 use Rattle.rules.specs.Counters.{is_mapped, is_running, not_running, chosen}
 use Rattle.rules.specs.declared.records.Counter.{Counter}
@@ -37,7 +37,7 @@ mask-ext : (n : ℕ) (f g : ℕ → Bool) → ((i : ℕ) → i < n → f i ≡ g
 unfolding mask_of
 mask-ext zero f g e = refl
 mask-ext (suc n) f g e =
-    ap₂ (λ (b : Bool) (m : ℕ). (if b then 1 else 0) + 2 * m) (e 0 (omega arith))
+    ap₂ (λ (b : Bool) (m : ℕ). (when b then 1 else 0) + 2 * m) (e 0 (omega arith))
     (mask-ext n (λ i. f (suc i)) (λ i. g (suc i)) (λ i l. e (suc i) (omega arith)))
 
 module _ (r : List ℕ) where
@@ -79,15 +79,15 @@ module _ (w b n m rest place : ℕ) (k : Marked w b n m rest place) where
       let q : 2 ^ n ≤ 2 ^ 7 = pow_mono (let z : n ≤ 7 = omega arith in z) in
       (omega (arith, s, q, k.mask), omega (arith, q, k.value))
 
-  pub marked-under : (x : ℕ) → x ≡ (if leb b (rest % 256) then place else 0) → x ≤ place
+  pub marked-under : (x : ℕ) → x ≡ (when leb b (rest % 256) then place else 0) → x ≤ place
   marked-under x e = rw e (if-both (λ (y : ℕ). y ≤ place) (leb b (rest % 256)) (λ q. omega arith) (λ q. omega arith))
 
-  pub marked_more : (x : ℕ) → x ≡ (if leb b (rest % 256) then place else 0)
+  pub marked_more : (x : ℕ) → x ≡ (when leb b (rest % 256) then place else 0)
       → Marked w b (n + 1) (m + x) (rest / 256) (place * 2)
   marked_more x e =
       let q : rest % 256 ≡ byte w n = ap (λ (y : ℕ). y % 256) k.left ∙ sym (byte_past w n) in
       record {
-        mask = ap₂ ◌+◌ k.mask (e ∙ ap₂ (λ (y z : ℕ). if leb b y then z else 0) q k.value)
+        mask = ap₂ ◌+◌ k.mask (e ∙ ap₂ (λ (y z : ℕ). when leb b y then z else 0) q k.value)
             ∙ sym (mask-more n (λ i. leb b (byte w i)))
             ∙ ap (λ (j : ℕ). mask_of j (λ i. leb b (byte w i))) (sym (add-one n));
         left = ap (λ (y : ℕ). y / 256) k.left ∙ sym (past_more w n) ∙ ap (past w) (sym (add-one n));
@@ -99,7 +99,7 @@ module _ (w b n m rest place : ℕ) (k : Marked w b n m rest place) where
 module _ (flags s : ℕ) (cs : List Counter) where
   -- the counters that may be taken
   abbrev free : ℕ → ℕ
-  free m = if bit flags 0 then 255 else m
+  free m = when bit flags 0 then 255 else m
 
   free-bit : (i : ℕ) → i < 8 → bit (free (mask_of 8 (not_running cs))) i ≡ (bit flags 0 || not_running cs i)
   free-bit i l =

@@ -5,7 +5,7 @@ use mathlib.Core.Option.{some}
 use lib.Bits.{bit_and, bit_or, or_add_and, and_le_l, and_le_r, or_lt}
 use lib.Count.{count_trailing_zeros, under}
 use borrow.Author.Tests.{not-true}
-use Rattle.rules.specs.Choice.{if◌then◌else◌}
+use Rattle.rules.specs.Choice.{when◌then◌else◌}
 use Rattle.rules.specs.Sets.{bit, every, those, all, first}
 use Rattle.rules.proofs.Logic.{if-true, if-false, by_cases, below_or, clash}
 use Rattle.rules.proofs.SetLaws.{every-at, every-ext}
@@ -15,10 +15,10 @@ use Rattle.store.specs.Sets.{mask_of, number_of}
 -- ----- the word of a set
 
 abbrev unit : Bool → ℕ
-unit b = if b then 1 else 0
+unit b = when b then 1 else 0
 
 one-or-none : (b : Bool) → (unit b ≡ 0) ⊎ (unit b ≡ 1)
-unfolding if◌then◌else◌
+unfolding when◌then◌else◌
 one-or-none true = inr refl
 one-or-none false = inl refl
 
@@ -54,11 +54,11 @@ mask-bit (suc n) f (suc i) l =
     halved b m = ⊎_elim (λ e. omega (arith, e)) (λ e. omega (arith, e)) (one-or-none b)
 
 -- one number more
-pub mask-more : (n : ℕ) (f : ℕ → Bool) → mask_of (suc n) f ≡ mask_of n f + (if f n then 2 ^ n else 0)
+pub mask-more : (n : ℕ) (f : ℕ → Bool) → mask_of (suc n) f ≡ mask_of n f + (when f n then 2 ^ n else 0)
 unfolding mask_of
 mask-more zero f = omega arith
 mask-more (suc n) f =
-    ap (λ (x : ℕ). (if f 0 then 1 else 0) + 2 * x) (mask-more n (λ i. f (suc i)))
+    ap (λ (x : ℕ). (when f 0 then 1 else 0) + 2 * x) (mask-more n (λ i. f (suc i)))
     ∙ by_cases (f (suc n))
     (λ e.
     let a = if-true (2 ^ n) 0 e in
@@ -72,8 +72,8 @@ mask-more (suc n) f =
 
 -- the numbers that are not in a set
 not-one : (b : Bool) (n x y : ℕ) → x + y + 1 ≡ 2 ^ n → 2 ^ suc n ≡ 2 ^ n * 2
-    → ((if b then 1 else 0) + 2 * x) + ((if not b then 1 else 0) + 2 * y) + 1 ≡ 2 ^ suc n
-unfolding if◌then◌else◌
+    → ((when b then 1 else 0) + 2 * x) + ((when not b then 1 else 0) + 2 * y) + 1 ≡ 2 ^ suc n
+unfolding when◌then◌else◌
 not-one true n x y h d = omega (arith, h, d)
 not-one false n x y h d = omega (arith, h, d)
 
@@ -95,12 +95,12 @@ all_append f [] b = refl
 all_append f (x ∷ a) b = ap (λ (c : Bool). f x && c) (all_append f a b) ∙ sym (and_assoc (f x) (all f a) (all f b))
 
 pub all-those : (n : ℕ) (f g : ℕ → Bool) → all f (those n g) ≡ every n (λ i. not (g i) || f i)
-unfolding those every all if◌then◌else◌
+unfolding those every all when◌then◌else◌
 all-those zero f g = refl
 all-those (suc n) f g =
-    all_append f (those n g) (if g n then n ∷ [] else []) ∙ ap₂ ◌&&◌ (all-those n f g) (last (g n))
+    all_append f (those n g) (when g n then n ∷ [] else []) ∙ ap₂ ◌&&◌ (all-those n f g) (last (g n))
   where
-    last : (b : Bool) → all f (if b then n ∷ [] else []) ≡ (not b || f n)
+    last : (b : Bool) → all f (when b then n ∷ [] else []) ≡ (not b || f n)
     last true = and-true (f n)
     last false = refl
 

@@ -2,7 +2,7 @@
 use Rattle.std.proofs.Common.{◌≡◌, ℕ, zero, suc, ◌+◌, ◌-◌, ◌/◌, ◌%◌, ◌^◌, ◌<◌, Bool, true, false, ◌&&◌, eqb, leb, List, get_or, sym, refl, ap, ◌∙◌, subst, ap₂, arith, le-ltb, lt-ltb, eq-eqb, ne_eqb, eqb-true, le-leb, leb-true}
 use lib.Bits.{bit_or, or_add_and, and_le_l, and_le_r}
 use borrow.Author.Tests.{lt-leb}
-use Rattle.rules.specs.Choice.{if◌then◌else◌}
+use Rattle.rules.specs.Choice.{when◌then◌else◌}
 use Rattle.rules.specs.Sets.{every}
 use Rattle.rules.specs.Tables.{is_idle, is_blank, hart_well_formed, counter_well_formed}
 use Rattle.rules.proofs.Logic.{if-true, if-false, below_or, same_test, and_l, and_r, and-of}
@@ -56,7 +56,7 @@ module _ (w : ℕ) where
 
 module _ (b v : ℕ) where
   counter-on : counter_well_formed true (counter_of b v) ≡ leb b 44
-  unfolding counter_well_formed if◌then◌else◌
+  unfolding counter_well_formed when◌then◌else◌
   counter-on =
       kinds b (counter_well_formed true (counter_of b v) ≡ leb b 44)
       (λ e. ap (counter_well_formed true) (of_none b v e) ∙ sym (le-leb b 44 (omega arith)))
@@ -67,7 +67,7 @@ module _ (b v : ℕ) where
       (λ q. le-leb (b - 23) 21 (omega (arith, leb-true b 44 q))))
 
   counter-off : counter_well_formed false (counter_of b v) ≡ (eqb b 0 && eqb v 0)
-  unfolding counter_well_formed is_blank if◌then◌else◌
+  unfolding counter_well_formed is_blank when◌then◌else◌
   counter-off =
       kinds b (counter_well_formed false (counter_of b v) ≡ (eqb b 0 && eqb v 0))
       (λ e. ap (counter_well_formed false) (of_none b v e) ∙ sym (rw (eq-eqb b 0 e) refl))
@@ -79,7 +79,7 @@ module _ (b v : ℕ) where
 pub row_on : (r : List ℕ)
     → row_well_formed true r ≡
     ((leb 2 (get_or r 0 0) && leb (get_or r 0 0) 15) && every 8 (λ i. leb (byte (get_or r 3 0) i) 44))
-unfolding row_well_formed hart_well_formed hart_in counter_in if◌then◌else◌
+unfolding row_well_formed hart_well_formed hart_in counter_in when◌then◌else◌
 row_on r =
     ap₂ (λ (a b : Bool). a && b) (state-fits (get_or r 0 0))
     (every-ext _ _ 8 (λ i h. counter-on (byte (get_or r 3 0) i) (get_or r (4 + i) 0)))
@@ -118,7 +118,7 @@ module _ (r : List ℕ) where
   at-k k i q e = subst (λ (i : ℕ). eqb (get_or r i 0) 0 ≡ true) q e
 
   off-split : row_well_formed false r ≡ ((stopped && (retentive && (address && opaque))) && every 8 blank)
-  unfolding row_well_formed hart_well_formed is_idle hart_in counter_in if◌then◌else◌
+  unfolding row_well_formed hart_well_formed is_idle hart_in counter_in when◌then◌else◌
   off-split =
       ap (λ (b : Bool). (stopped && (retentive && (address && opaque))) && b)
       (every-ext _ _ 8 (λ i h. counter-off (byte (get_or r 3 0) i) (get_or r (4 + i) 0)))

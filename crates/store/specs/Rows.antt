@@ -9,7 +9,7 @@
 --   Held r x cs               the row r holds the record x and the counters cs
 --   Alters r r' f             the row r' is r with its counters altered by f
 use Rattle.std.specs.Prelude.{◌≡◌, ℕ, zero, suc, ◌+◌, ◌-◌, ◌*◌, ◌/◌, ◌%◌, ◌^◌, ◌<◌, Bool, true, false, List, [], ◌∷◌, ◌++◌, length, ◌==◌, nat_lt, slice_index}
-use Rattle.rules.specs.Choice.{if◌then◌else◌}
+use Rattle.rules.specs.Choice.{when◌then◌else◌}
 use Rattle.rules.specs.Names.{counters}
 use Rattle.rules.specs.declared.records.Hart.{Hart}
 use Rattle.rules.specs.declared.records.Counter.{Counter}
@@ -39,7 +39,7 @@ values_at = 4
 
 -- cleared memory holds no state
 unfoldable pub state_in : ℕ → ℕ
-state_in w = if nat_lt w 2 then 2 ^ 64 - 1 else w / 2 - 1
+state_in w = when nat_lt w 2 then 2 ^ 64 - 1 else w / 2 - 1
 
 unfoldable pub hart_in : List ℕ → Hart
 hart_in r = record {
@@ -80,14 +80,14 @@ last_control = 44
 
 unfoldable pub counter_of : ℕ → ℕ → Counter
 counter_of b v =
-    if b == 0 then record { mapped = false; code = 0; running = false; value = v }
-    else if nat_lt b running_code
+    when b == 0 then record { mapped = false; code = 0; running = false; value = v }
+    else when nat_lt b running_code
     then record { mapped = true; code = b - stopped_code; running = false; value = v }
     else record { mapped = true; code = b - running_code; running = true; value = v }
 
 abbrev pub control_of : Counter → ℕ
 control_of c =
-    if c.mapped then (if c.running then c.code + running_code else c.code + stopped_code) else 0
+    when c.mapped then (when c.running then c.code + running_code else c.code + stopped_code) else 0
 
 unfoldable pub counter_in : List ℕ → ℕ → Counter
 counter_in r i = counter_of (byte (slice_index r control_at) i) (slice_index r (values_at + i))

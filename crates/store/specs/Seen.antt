@@ -7,7 +7,7 @@
 --   count_hart           the tables after an event of a code at hart h
 --   fresh_rows boot      the rows of fresh tables; `FreshOr`: what making them leaves
 use Rattle.std.specs.Prelude.{◌≡◌, ℕ, ◌-◌, ◌<◌, Bool, true, false, List, [], ◌∷◌, map, length, replicate, ◌==◌, slice_index_or, slice_set}
-use Rattle.rules.specs.Choice.{if◌then◌else◌}
+use Rattle.rules.specs.Choice.{when◌then◌else◌}
 use Rattle.rules.specs.Names.{harts, STARTED, STOPPED}
 use Rattle.rules.specs.Tables.{Tables, own_at, fresh}
 use Rattle.rules.specs.Replies.{count_at}
@@ -54,7 +54,7 @@ pub record Holds (t : List (List ℕ)) (s : Tables) : Type 0 where
 
 -- the row of the boot hart, or of another
 abbrev pub fresh_row : Bool → List ℕ
-fresh_row boot = (if boot then state_word STARTED else state_word STOPPED) ∷ replicate (words - 1) 0
+fresh_row boot = (when boot then state_word STARTED else state_word STOPPED) ∷ replicate (words - 1) 0
 
 abbrev pub fresh_rows : (boot : ℕ) → List (List ℕ)
 fresh_rows boot = table harts (λ h. fresh_row (h == boot))

@@ -8,7 +8,7 @@
 --   at_one, Kept      a change of one counter of a set; that it keeps the set's well formed
 use Rattle.std.specs.Prelude.{◌≡◌, ℕ, zero, suc, ◌+◌, ◌*◌, ◌<◌, Bool, true, List, slice_set}
 use Rattle.std.proofs.Math.Option.{Option, none, some}
-use Rattle.rules.specs.Choice.{if◌then◌else◌}
+use Rattle.rules.specs.Choice.{when◌then◌else◌}
 use Rattle.rules.specs.Names.{counters}
 use Rattle.rules.specs.Sets.{bit, those, all}
 use Rattle.rules.specs.Tables.{counter_at, CounterFine}
@@ -17,7 +17,7 @@ use Rattle.rules.specs.declared.records.Counter.{Counter}
 
 unfoldable pub mask_of : ℕ → (ℕ → Bool) → ℕ
 mask_of zero f = 0
-mask_of (suc n) f = (if f 0 then 1 else 0) + 2 * mask_of n (λ i. f (suc i))
+mask_of (suc n) f = (when f 0 then 1 else 0) + 2 * mask_of n (λ i. f (suc i))
 
 abbrev pub number_of : Option ℕ → ℕ
 number_of none = counters
@@ -40,7 +40,7 @@ configure_at flags e i cs = slice_set cs i (configured flags e (counter_at cs i)
 
 -- f at counter i, if the set s has it
 abbrev pub at_one : (Counter → Counter) → (s i : ℕ) → List Counter → List Counter
-at_one f s i cs = if bit s i then slice_set cs i (f (counter_at cs i)) else cs
+at_one f s i cs = when bit s i then slice_set cs i (f (counter_at cs i)) else cs
 
 -- f keeps counter i well formed, if the set s has it; it keeps each
 abbrev pub KeptAt : (Counter → Counter) → (s i : ℕ) → List Counter → Type 0

@@ -1,6 +1,6 @@
 // Tests joined, and one of two numbers, with no early exit.
 ghost use Rattle.std.specs.Prelude.{◌≡◌, ◌&&◌, ◌||◌};
-ghost use Rattle.rules.specs.Choice.{if◌then◌else◌};
+ghost use Rattle.rules.specs.Choice.{when◌then◌else◌};
 
 // Both of two tests.
 pub fn both(a: bool, b: bool) -> bool
@@ -18,7 +18,7 @@ pub fn either(a: bool, b: bool) -> bool
 
 // x if the test holds, else y.
 pub fn choose(test: bool, x: u64, y: u64) -> u64
-    ensures { result ≡ if test then x else y }
+    ensures { result ≡ when test then x else y }
 {
     if test { x } else { y }
 }

@@ -8,7 +8,7 @@ use native.Mathlib.Omega.{arith}
 use lib.Dec.{leb, ltb}
 use lib.ListN.{length, get_or, take}
 use borrow.Author.Tests.{leb-true, le-leb, ltb-true, lt-ltb, le-ltb}
-use Rattle.rules.specs.Choice.{if◌then◌else◌}
+use Rattle.rules.specs.Choice.{when◌then◌else◌}
 use Rattle.rules.specs.Sets.{all, any}
 use Rattle.rules.proofs.Logic.{if-true, if-false, below_or, same_test, and-of, or-of}
 
@@ -68,7 +68,7 @@ pub record Looked {A : Type 0} (l : List A) (used n : ℕ) : Type 0 where
   pub inside : n ≤ length l
   pub same : take n l ≡ take used l
 
-pub looked : {A : Type 0} (l : List A) (used n : ℕ) → length l ≡ 8 → n ≡ (if ltb used 8 then used else 8)
+pub looked : {A : Type 0} (l : List A) (used n : ℕ) → length l ≡ 8 → n ≡ (when ltb used 8 then used else 8)
     → Looked l used n
 looked l used n e q =
     below_or used 8

@@ -1,7 +1,7 @@
 -- `row_match` counts the zeros below the lowest counter of the set that may be taken.
 use Rattle.store.proofs.KindLaws.{match_is}
 use Rattle.store.specs.Rows.{counters_in}
-use Rattle.rules.specs.Choice.{if◌then◌else◌}
+use Rattle.rules.specs.Choice.{when◌then◌else◌}
 use Rattle.std.proofs.Common.{ℕ, Bool, ◌∙◌, ap₂, arith}
 use lib.Bits.{bit_and, bit_or}
 use lib.Count.{trailing_le}
@@ -16,4 +16,4 @@ returns c =
     let a = c.args in
     match_is a.flags a.s (counters_in a.r.now) c.choose-free.result
     (c.choose-free.ensures
-    ∙ ap₂ (λ (b : Bool) (m : ℕ). if b then 255 else m) c.bit_of.ensures c.idle_in.ensures)
+    ∙ ap₂ (λ (b : Bool) (m : ℕ). when b then 255 else m) c.bit_of.ensures c.idle_in.ensures)

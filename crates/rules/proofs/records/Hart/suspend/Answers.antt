@@ -1,12 +1,12 @@
 -- `Hart::suspend` writes the sleep note.
-use Rattle.rules.specs.Choice.{if◌then◌else◌}
+use Rattle.rules.specs.Choice.{when◌then◌else◌}
 use Rattle.rules.specs.Harts.{suspend_of}
 use Rattle.rules.proofs.records.Hart.suspend.Goals as goal
 
 pub returns-then-retentive : goal.returns-then-retentive
-unfolding suspend_of if◌then◌else◌
+unfolding suspend_of when◌then◌else◌
 returns-then-retentive c = rw c.if-retentive.true
 
 pub returns : goal.returns
-unfolding suspend_of if◌then◌else◌
+unfolding suspend_of when◌then◌else◌
 returns c = rw c.if-retentive.false
