@@ -2,7 +2,7 @@
 -- Words 0 to 62 are seven records of nine: kind and hart h, EID, FID, a0 to a5."
 --   word_at bs at      the little-endian word of the eight bytes from a place on
 --   words_at n bs at   n of them, one after the other
---   passes ws         the words sum to 1 modulo 2^64
+--   passes ws          the words sum to 1 modulo 2^64
 --   record_at ws i     record i of seven
 use Rattle.std.specs.Prelude.{ℕ, zero, suc, ◌+◌, ◌-◌, ◌*◌, ◌%◌, ◌^◌, Bool, ◌&&◌, List, [], ◌∷◌, ◌++◌, ◌==◌, nat_le, nat_lt, slice_index}
 use Rattle.rules.specs.Choice.{when◌then◌else◌}

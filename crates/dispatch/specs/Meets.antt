@@ -4,9 +4,9 @@
 --   Keeps t h q r           the same of a function that alters neither rows nor memory
 --   Ready p t m h           what a function behind the host's tests may rely on
 --   WellFormed p t          what a function behind the test of the tables may rely on
---   count_in                 the number of actions in an answer
---   told_one, told           the tables once one hart, or some, were told of an event
---   put_action               memory with one action put at a place
+--   count_in                the number of actions in an answer
+--   told_one, told          the tables once one hart, or some, were told of an event
+--   put_action              memory with one action put at a place
 use Rattle.std.specs.Prelude.{◌≡◌, List, [], ◌∷◌, ◌++◌, true, ℕ, ◌+◌, ◌≤◌, length, take, drop}
 use Rattle.rules.specs.Names.{action_memory}
 use Rattle.rules.specs.Platform.{enabled, platform_accepted}

@@ -4,7 +4,7 @@
 --   Run p t ops t'          steps of the operations ops lead from the rows t to the rows t'
 --   Freshens p t t' a       the contract of `fresh`: rows t before, t' after, answer a
 --   HandsBack m a r         the contract of `front`: the part r of the memory m for the answer a
---   is_success a             a pair whose error is 0
+--   is_success a            a pair whose error is 0
 use Rattle.std.specs.Prelude.{◌≡◌, List, [], ◌∷◌, Bool, false, ℕ, ◌*◌, eqb, ℤ, pos, negsuc, length, take}
 use Rattle.rules.specs.Platform.{platform_accepted}
 use Rattle.rules.specs.Machine.{Operation, call, completion, waking, event, hart_of, reply}

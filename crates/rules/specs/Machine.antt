@@ -1,9 +1,10 @@
 -- The whole machine: what each operation is answered on which tables, and the tables after it.
---   Operation         a call, a completion, a wake or a reported event; room is how many words of
---                     action memory were lent with it
---   reply p t op      the answer's content, host refusals first
+--   Operation          a call, a completion, a wake or a reported event; room is how many words of
+--                      action memory were lent with it
+--   reply p t op       the answer's content, host refusals first
 --   after, after_all   the tables after an operation, and after a history of them
---   fresh_over, fresh_answer   lent tables made fresh, and the answer to that
+--   fresh_over         lent tables made fresh
+--   fresh_answer       the answer to that
 use Rattle.std.specs.Prelude.{Bool, false, not, List, [], ◌∷◌, ℕ, ltb, eqb}
 use Rattle.rules.specs.Platform.{platform_accepted, enabled}
 use Rattle.rules.specs.Tables.{fresh, Tables, state_of, well_formed}

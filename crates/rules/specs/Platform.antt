@@ -2,9 +2,9 @@
 --   has s h               hart h is in the set s
 --   enabled, hypervisor   hart h is enabled; has the hypervisor extension
 --   width p               how many bits a register has
---   used_ranges p          its memory ranges
---   valid_address p a      an address that a hart may be sent to
---   platform_accepted p    no ground of H1 holds against it; `PlatformAccepted` says the same
+--   used_ranges p         its memory ranges
+--   valid_address p a     an address that a hart may be sent to
+--   platform_accepted p   no ground of H1 holds against it; `PlatformAccepted` says the same
 use Rattle.std.specs.Prelude.{◌≡◌, Bool, true, false, not, ◌&&◌, ◌||◌, ℕ, ◌+◌, ◌-◌, ◌^◌, ◌%◌, ◌<◌, ◌≤◌, ltb, leb, eqb, take}
 use mathlib.Core.List.{List, Memᴰ}
 use Rattle.rules.specs.Choice.{when◌then◌else◌}

@@ -1,12 +1,12 @@
 -- What a call is shown, what it answers, the tables and the action memory after it.
---   View             what an operation of hart h sees: the hart records, and h's own eight counters
---   Reply            Hk, an error pair, or what was done (Done)
---   Plain, plain     the reply of a call that alters no hart record
---   commit           the tables after a reply
---   answer_of         the answer that the host gets for a reply
---   pair_of           what a0 and a1 hold for an answer
---   front_of          the front part of the action memory that the host gets back
---   memory_after      the action memory after a reply
+--   View           what an operation of hart h sees: the hart records, and h's own eight counters
+--   Reply          Hk, an error pair, or what was done (Done)
+--   Plain, plain   the reply of a call that alters no hart record
+--   commit         the tables after a reply
+--   answer_of      the answer that the host gets for a reply
+--   pair_of        what a0 and a1 hold for an answer
+--   front_of       the front part of the action memory that the host gets back
+--   memory_after   the action memory after a reply
 use Rattle.std.specs.Prelude.{Bool, true, false, ◌&&◌, List, [], ◌∷◌, ◌++◌, map, ℕ, suc, ◌+◌, ◌-◌, ◌^◌, ◌%◌, eqb, ℤ, pos, negsuc, get_or, set, length, drop}
 use Rattle.rules.specs.Choice.{when◌then◌else◌}
 use Rattle.rules.specs.Names.{success, enter_kind}

@@ -1,13 +1,13 @@
 -- The tables: a record for each hart and eight counters for each hart, fresh ones, and when they
 -- are well formed.
---   Tables                 the hart records, and the counters hart by hart
+--   Tables                   the hart records, and the counters hart by hart
 --   hart_at, own_at, counter_at   hart h's record; its eight counters; counter i of eight
---   state_of                a hart's state
---   in_state x s            the record x in another state, its sleep note kept
---   idle s                 the record in state s with a sleep note that says nothing
---   fresh p                the tables at power-up
+--   state_of                 a hart's state
+--   in_state x s             the record x in another state, its sleep note kept
+--   idle s                   the record in state s with a sleep note that says nothing
+--   fresh p                  the tables at power-up
 --   tables_well_formed p t   no ground of H1 holds against them; `TablesWellFormed` says the same
---                          as a statement
+--                            as a statement
 use Rattle.std.specs.Prelude.{◌≡◌, Bool, true, false, not, ◌&&◌, List, [], ℕ, ◌≤◌, ◌<◌, leb, eqb, get_or, set, length, replicate}
 use Rattle.rules.specs.Choice.{when◌then◌else◌}
 use Rattle.rules.specs.Sets.{every}

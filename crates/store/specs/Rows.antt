@@ -1,13 +1,13 @@
 -- What one hart's row of words holds.
---   state_in w, hart_in r       the state in a row's first word; a row's hart record
---   byte w i                  byte i of a word, lowest first
---   with_byte w i b            the word with byte i put anew
---   counter_of b v             the counter with the control byte b and the value v
---   control_of c               the control byte of a counter
---   counter_in r i             counter i of a row; `counters_in r`: all eight
---   Fit r                     r has the shape that its type gives it
---   Held r x cs               the row r holds the record x and the counters cs
---   Alters r r' f             the row r' is r with its counters altered by f
+--   state_in w, hart_in r   the state in a row's first word; a row's hart record
+--   byte w i                byte i of a word, lowest first
+--   with_byte w i b         the word with byte i put anew
+--   counter_of b v          the counter with the control byte b and the value v
+--   control_of c            the control byte of a counter
+--   counter_in r i          counter i of a row; `counters_in r`: all eight
+--   Fit r                   r has the shape that its type gives it
+--   Held r x cs             the row r holds the record x and the counters cs
+--   Alters r r' f           the row r' is r with its counters altered by f
 use Rattle.std.specs.Prelude.{◌≡◌, ℕ, zero, suc, ◌+◌, ◌-◌, ◌*◌, ◌/◌, ◌%◌, ◌^◌, ◌<◌, Bool, true, false, List, [], ◌∷◌, ◌++◌, length, ◌==◌, nat_lt, slice_index}
 use Rattle.rules.specs.Choice.{when◌then◌else◌}
 use Rattle.rules.specs.Names.{counters}

@@ -2,10 +2,10 @@
 --   seen t              the tables that the rows t hold
 --   Shaped t            the rows t have the shape that their type gives them
 --   Holds t s           the rows t hold the tables s
---   put_hart, put_own     the tables with hart h's record, or its eight counters, put anew
---   alter_own            the tables with hart h's eight counters altered
---   count_hart           the tables after an event of a code at hart h
---   fresh_rows boot      the rows of fresh tables; `FreshOr`: what making them leaves
+--   put_hart, put_own   the tables with hart h's record, or its eight counters, put anew
+--   alter_own           the tables with hart h's eight counters altered
+--   count_hart          the tables after an event of a code at hart h
+--   fresh_rows boot     the rows of fresh tables; `FreshOr`: what making them leaves
 use Rattle.std.specs.Prelude.{◌≡◌, ℕ, ◌-◌, ◌<◌, Bool, true, false, List, [], ◌∷◌, map, length, replicate, ◌==◌, slice_index_or, slice_set}
 use Rattle.rules.specs.Choice.{when◌then◌else◌}
 use Rattle.rules.specs.Names.{harts, STARTED, STOPPED}

@@ -1,5 +1,5 @@
 -- The record after a completion.
---   after x n          the record x after a step to n; as it is where the step is forbidden
+--   after x n           the record x after a step to n; as it is where the step is forbidden
 --   completed_of x      the record x after the completion of its pending state
 --   complete_hart s h   the tables s after the completion of hart h
 use Rattle.std.specs.Prelude.{ℕ}

@@ -1,7 +1,7 @@
 -- When a row is well formed, and half of the rows.
---   row_well_formed on r      what a row holds is well formed, of a hart that is enabled or not
---   Half m t from n b       b tells whether the n rows from a place on are well formed, with the
---                           bits m of the enabled harts among them; and each has its shape
+--   row_well_formed on r   what a row holds is well formed, of a hart that is enabled or not
+--   Half m t from n b      b tells whether the n rows from a place on are well formed, with the
+--                          bits m of the enabled harts among them; and each has its shape
 use Rattle.std.specs.Prelude.{◌≡◌, ℕ, ◌+◌, ◌<◌, Bool, ◌&&◌, List, [], slice_index_or}
 use Rattle.rules.specs.Names.{counters}
 use Rattle.rules.specs.Sets.{bit, every}
