@@ -17,7 +17,7 @@ use Rattle.rules.specs.declared.answers.Answer.{Answer}
 use Rattle.rules.specs.declared.answers.Answer.TheVariants.{Pair, Refused}
 use Rattle.rules.specs.declared.answers.Registers.{Registers}
 use Rattle.rules.specs.declared.platform.Platform.{Platform}
-use Rattle.std.specs.Borrow.{Bor}
+use Rattle.std.specs.Borrow.{MutBor}
 use Rattle.dispatch.specs.Meets.{count_in}
 use Rattle.dispatch.specs.Steps.{Step, Run, Freshens, HandsBack, is_success}
 
@@ -71,7 +71,7 @@ Condition2 = (p : Platform) (op : Operation) (t t' : List (List ℕ)) (m m' : Li
 -- the part that `front` hands back of the memory that a step left is the words of its actions
 abbrev pub FrontIsActions : Type 0
 FrontIsActions = (p : Platform) (op : Operation) (t t' : List (List ℕ)) (m : List ℕ) (a : Answer)
-    (m' r : Bor (List ℕ)) → Step p op t t' m m'.now a → HandsBack m' a r
+    (m' r : MutBor (List ℕ)) → Step p op t t' m m'.now a → HandsBack m' a r
     → r.now ≡ front_of (reply p (seen t) op)
 
 -- ----- condition 3

@@ -11,7 +11,7 @@ use Rattle.tables.specs.Keeping.{seen, Holds}
 use Rattle.rules.specs.declared.answers.Answer.{Answer}
 use Rattle.rules.specs.declared.answers.Registers.{Registers}
 use Rattle.rules.specs.declared.platform.Platform.{Platform}
-use Rattle.std.specs.Borrow.{Bor}
+use Rattle.std.specs.Borrow.{MutBor}
 use Rattle.dispatch.specs.Meets.{Meets, WellFormed}
 use Rattle.dispatch.specs.Steps.{Step, Run, Freshens, HandsBack}
 
@@ -30,7 +30,7 @@ OneFresh = (p : Platform) (t t₁ t₂ : List (List ℕ)) (a₁ a₂ : Answer) �
 
 -- of front: the words handed back, and where they lie
 abbrev pub OneFront : Type 0
-OneFront = (m r₁ r₂ : Bor (List ℕ)) (a : Answer) → HandsBack m a r₁ → HandsBack m a r₂
+OneFront = (m r₁ r₂ : MutBor (List ℕ)) (a : Answer) → HandsBack m a r₁ → HandsBack m a r₂
     → (r₁.now ≡ r₂.now) × (r₁.ref_ptr ≡ r₂.ref_ptr)
 
 -- of a history: each step is settled, so the last rows are

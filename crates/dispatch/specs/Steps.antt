@@ -13,7 +13,7 @@ use Rattle.tables.specs.Keeping.{seen, FreshOr}
 use Rattle.rules.specs.declared.answers.Answer.{Answer}
 use Rattle.rules.specs.declared.answers.Answer.TheVariants.{Pair, Refused}
 use Rattle.rules.specs.declared.platform.Platform.{Platform}
-use Rattle.std.specs.Borrow.{Bor}
+use Rattle.std.specs.Borrow.{MutBor}
 use Rattle.dispatch.specs.Meets.{Meets, count_in}
 
 -- calls, completions and wakes lend action memory; an event lends none, so any memory stands by
@@ -41,7 +41,7 @@ Freshens p t t' a =
     (a ≡ fresh_answer p) × FreshOr (platform_accepted p) p t t'
 
 -- the contract of `front`
-abbrev pub HandsBack : (m : Bor (List ℕ)) → Answer → (r : Bor (List ℕ)) → Type 0
+abbrev pub HandsBack : (m : MutBor (List ℕ)) → Answer → (r : MutBor (List ℕ)) → Type 0
 HandsBack m a r = (r.now ≡ take (5 * count_in a) m.now) × (r.ref_ptr ≡ m.ref_ptr)
 
 -- the error 0

@@ -29,11 +29,10 @@ get_hart-x-requires c = (
 
 pub returns-then-x-ne-STOPPED : goal.returns-then-x-ne-STOPPED
 unfolding view
-returns-then-x-ne-STOPPED c = failing _ _ c.requires.0 _ already_available
-    (start-not-stopped _ _ _ _ _
-    (sym c.is_enabled.ensures
-    ∙ c.if-not-is_enabled.false)
-    (λ e. c.if-x-ne-STOPPED.true (ap (λ (x : Hart). x.state) c.get_hart-x.ensures ∙ e)))
+returns-then-x-ne-STOPPED c =
+    let on = sym c.is_enabled.ensures ∙ c.if-not-is_enabled.false in
+    failing _ _ c.requires.0 _ already_available
+    (start-not-stopped _ _ _ _ _ on (λ e. c.if-x-ne-STOPPED.true (ap (λ (x : Hart). x.state) c.get_hart-x.ensures ∙ e)))
     c.already_available.ensures _
 
 pub returns-then-not-valid_address : goal.returns-then-not-valid_address
