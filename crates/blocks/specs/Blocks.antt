@@ -4,7 +4,8 @@
 --   words_at n bs at   n of them, one after the other
 --   passes ws          the words sum to 1 modulo 2^64
 --   record_at ws i     record i of seven
-use Rattle.std.specs.Prelude.{ℕ, zero, suc, ◌+◌, ◌-◌, ◌*◌, ◌%◌, ◌^◌, Bool, ◌&&◌, List, [], ◌∷◌, ◌++◌, ◌==◌, nat_le, nat_lt, slice_index}
+use Rattle.std.specs.Prelude.{ℕ, zero, suc, ◌+◌, ◌-◌, ◌*◌, ◌%◌, ◌^◌, Bool, ◌&&◌, List, [], ◌∷◌}
+use Rattle.std.specs.Prelude.{◌++◌, ◌==◌, nat_le, nat_lt, slice_index}
 use Rattle.rules.specs.Choice.{when◌then◌else◌}
 use Rattle.blocks.specs.declared.Record.{Record}
 use Rattle.blocks.specs.declared.Record.TheVariants.{Unused, Call, Done, Wake, Event, Unknown}

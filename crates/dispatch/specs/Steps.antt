@@ -5,7 +5,8 @@
 --   Freshens p t t' a       the contract of `fresh`: rows t before, t' after, answer a
 --   HandsBack m a r         the contract of `front`: the part r of the memory m for the answer a
 --   is_success a            a pair whose error is 0
-use Rattle.std.specs.Prelude.{◌≡◌, List, [], ◌∷◌, Bool, false, ℕ, ◌*◌, eqb, ℤ, pos, negsuc, length, take}
+use Rattle.std.specs.Prelude.{◌≡◌, List, [], ◌∷◌, Bool, false, ℕ, ◌*◌, eqb, ℤ, pos, negsuc, length}
+use Rattle.std.specs.Prelude.{take}
 use Rattle.rules.specs.Platform.{platform_accepted}
 use Rattle.rules.specs.Machine.{Operation, call, completion, waking, event, hart_of, reply}
 use Rattle.rules.specs.Machine.{fresh_answer}

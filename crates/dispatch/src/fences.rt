@@ -2,7 +2,8 @@
 ghost use Rattle.std.specs.Prelude.{◌≡◌, ◌||◌, ◌+◌, ◌<◌, ◌≤◌, ◌^◌, eqb, ltb, length, true};
 ghost use Rattle.rules.specs.Names.{harts, action_memory, fence_kind};
 ghost use Rattle.rules.specs.Masks.{selected, selection_fits};
-ghost use Rattle.rules.specs.Fences.{id_valid, hypervisors_fit, range_valid, interrupt_reply, fence_reply};
+ghost use Rattle.rules.specs.Fences.{id_valid, hypervisors_fit, range_valid, interrupt_reply};
+ghost use Rattle.rules.specs.Fences.{fence_reply};
 ghost use Rattle.rules.specs.Replies.{view, plain};
 ghost use Rattle.rules.specs.Requests.{fence_request, interrupt_request};
 ghost use Rattle.rules.specs.Machine.{plain_reply};

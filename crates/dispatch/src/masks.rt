@@ -4,7 +4,8 @@ ghost use Rattle.std.specs.Prelude.{◌≡◌, true, not, ◌||◌, map, ◌<◌
 ghost use Rattle.rules.specs.Names.{harts, action_memory};
 ghost use Rattle.rules.specs.Sets.{every, those};
 ghost use Rattle.rules.specs.Platform.{hypervisor};
-ghost use Rattle.rules.specs.Masks.{selection_fits, bit_fits, selects, reaches, is_reached, action_for};
+ghost use Rattle.rules.specs.Masks.{selection_fits, bit_fits, selects, reaches, is_reached};
+ghost use Rattle.rules.specs.Masks.{action_for};
 ghost use Rattle.rules.specs.Replies.{words_of, laid};
 ghost use Rattle.tables.specs.Keeping.{seen, Shaped, Holds};
 ghost use Rattle.dispatch.specs.Meets.{told_one, told};

@@ -1,7 +1,8 @@
 -- The caller's own eight firmware counters: PMU functions 1 to 6, and reported events.
 --   counter_set p base m   the numbers of a set of counters
 --   each f is cs           f at the counters with these numbers
-use Rattle.std.specs.Prelude.{Bool, true, false, not, ◌&&◌, ◌||◌, List, [], ◌∷◌, map, ℕ, ◌-◌, ◌^◌, ltb, leb, eqb, set}
+use Rattle.std.specs.Prelude.{Bool, true, false, not, ◌&&◌, ◌||◌, List, [], ◌∷◌, map, ℕ, ◌-◌, ◌^◌}
+use Rattle.std.specs.Prelude.{ltb, leb, eqb, set}
 use Rattle.std.proofs.Math.Option.{Option, none, some}
 use Rattle.rules.specs.Choice.{when◌then◌else◌}
 use Rattle.rules.specs.Sets.{bit, numbers, keep, all, first}

@@ -1,6 +1,7 @@
 -- Interrupts and remote fences. "Fences FID 0 to 6: FENCE.I, SFENCE.VMA, SFENCE.VMA ASID,
 -- HFENCE.GVMA VMID, HFENCE.GVMA, HFENCE.VVMA ASID, HFENCE.VVMA."
-use Rattle.std.specs.Prelude.{Bool, true, not, ◌&&◌, ◌||◌, List, [], ◌∷◌, ℕ, ◌+◌, ◌^◌, ltb, leb, eqb, get_or}
+use Rattle.std.specs.Prelude.{Bool, true, not, ◌&&◌, ◌||◌, List, [], ◌∷◌, ℕ, ◌+◌, ◌^◌, ltb, leb}
+use Rattle.std.specs.Prelude.{eqb, get_or}
 use Rattle.rules.specs.Choice.{when◌then◌else◌}
 use Rattle.rules.specs.Sets.{ones, all}
 use Rattle.rules.specs.Names.{interrupt_kind, fence_kind, interrupt_sent, not_supported}

@@ -5,7 +5,8 @@
 --   used_ranges p         its memory ranges
 --   valid_address p a     an address that a hart may be sent to
 --   platform_accepted p   no ground of H1 holds against it; `PlatformAccepted` says the same
-use Rattle.std.specs.Prelude.{◌≡◌, Bool, true, false, not, ◌&&◌, ◌||◌, ℕ, ◌+◌, ◌-◌, ◌^◌, ◌%◌, ◌<◌, ◌≤◌, ltb, leb, eqb, take}
+use Rattle.std.specs.Prelude.{◌≡◌, Bool, true, false, not, ◌&&◌, ◌||◌, ℕ, ◌+◌, ◌-◌, ◌^◌, ◌%◌, ◌<◌}
+use Rattle.std.specs.Prelude.{◌≤◌, ltb, leb, eqb, take}
 use mathlib.Core.List.{List, Memᴰ}
 use Rattle.rules.specs.Choice.{when◌then◌else◌}
 use Rattle.rules.specs.Sets.{bit, every, all, any}

@@ -7,7 +7,8 @@
 --   pair_of        what a0 and a1 hold for an answer
 --   front_of       the front part of the action memory that the host gets back
 --   memory_after   the action memory after a reply
-use Rattle.std.specs.Prelude.{Bool, true, false, ◌&&◌, List, [], ◌∷◌, ◌++◌, map, ℕ, suc, ◌+◌, ◌-◌, ◌^◌, ◌%◌, eqb, ℤ, pos, negsuc, get_or, set, length, drop}
+use Rattle.std.specs.Prelude.{Bool, true, false, ◌&&◌, List, [], ◌∷◌, ◌++◌, map, ℕ, suc, ◌+◌, ◌-◌}
+use Rattle.std.specs.Prelude.{◌^◌, ◌%◌, eqb, ℤ, pos, negsuc, get_or, set, length, drop}
 use Rattle.rules.specs.Choice.{when◌then◌else◌}
 use Rattle.rules.specs.Names.{success, enter_kind}
 use Rattle.rules.specs.Tables.{Tables, own_at}

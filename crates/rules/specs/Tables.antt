@@ -8,7 +8,8 @@
 --   fresh p                  the tables at power-up
 --   tables_well_formed p t   no ground of H1 holds against them; `TablesWellFormed` says the same
 --                            as a statement
-use Rattle.std.specs.Prelude.{◌≡◌, Bool, true, false, not, ◌&&◌, List, [], ℕ, ◌≤◌, ◌<◌, leb, eqb, get_or, set, length, replicate}
+use Rattle.std.specs.Prelude.{◌≡◌, Bool, true, false, not, ◌&&◌, List, [], ℕ, ◌≤◌, ◌<◌, leb, eqb}
+use Rattle.std.specs.Prelude.{get_or, set, length, replicate}
 use Rattle.rules.specs.Choice.{when◌then◌else◌}
 use Rattle.rules.specs.Sets.{every}
 use Rattle.rules.specs.Names.{harts, counters, last_code, STARTED, STOPPED, RESUME_PENDING}

@@ -6,7 +6,8 @@
 --   alter_own           the tables with hart h's eight counters altered
 --   count_hart          the tables after an event of a code at hart h
 --   fresh_rows boot     the rows of fresh tables; `FreshOr`: what making them leaves
-use Rattle.std.specs.Prelude.{◌≡◌, ℕ, ◌-◌, ◌<◌, Bool, true, false, List, [], ◌∷◌, map, length, replicate, ◌==◌, slice_index_or, slice_set}
+use Rattle.std.specs.Prelude.{◌≡◌, ℕ, ◌-◌, ◌<◌, Bool, true, false, List, [], ◌∷◌, map, length}
+use Rattle.std.specs.Prelude.{replicate, ◌==◌, slice_index_or, slice_set}
 use Rattle.rules.specs.Choice.{when◌then◌else◌}
 use Rattle.rules.specs.Names.{harts, STARTED, STOPPED}
 use Rattle.rules.specs.Tables.{Tables, own_at, fresh}

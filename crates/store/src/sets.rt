@@ -2,7 +2,8 @@
 ghost use Rattle.std.specs.Prelude.{◌≡◌, ◌<◌, ◌==◌, bit_and, nat_le};
 ghost use Rattle.rules.specs.Names.{counters};
 ghost use Rattle.rules.specs.Sets.{all};
-ghost use Rattle.rules.specs.Counters.{is_mapped, is_running, not_running, chosen, each, begun, ended};
+ghost use Rattle.rules.specs.Counters.{is_mapped, is_running, not_running, chosen, each, begun};
+ghost use Rattle.rules.specs.Counters.{ended};
 ghost use Rattle.store.specs.Rows.{byte, counters_in, Fit, Alters};
 ghost use Rattle.store.specs.Sets.{mask_of, number_of, set_of, at_one, KeptAt, Kept};
 

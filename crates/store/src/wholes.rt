@@ -1,6 +1,7 @@
 // The test of whole tables, on their words. It has no early exit, so that it also tells the shape
 // of every row.
-ghost use Rattle.std.specs.Prelude.{◌≡◌, ℕ, ◌+◌, ◌-◌, ◌^◌, ◌<◌, ◌≤◌, length, nat_eq, nat_le, slice_index};
+ghost use Rattle.std.specs.Prelude.{◌≡◌, ℕ, ◌+◌, ◌-◌, ◌^◌, ◌<◌, ◌≤◌, length, nat_eq, nat_le};
+ghost use Rattle.std.specs.Prelude.{slice_index};
 ghost use Rattle.rules.specs.Names.{harts, counters};
 ghost use Rattle.rules.specs.Sets.{every};
 ghost use Rattle.rules.specs.Tables.{tables_well_formed};

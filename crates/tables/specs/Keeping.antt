@@ -15,6 +15,7 @@
 --   Fine cs              each of the counters cs is well formed
 --   Startable cs s       each of them is, and those of the set s are mapped
 --   configure_at         counter i of eight configured
-pub use Rattle.store.specs.Seen.{seen, Shaped, Holds, put_hart, put_own, alter_own, count_hart, FreshOr}
+pub use Rattle.store.specs.Seen.{seen, Shaped, Holds, put_hart, put_own, alter_own, count_hart}
+pub use Rattle.store.specs.Seen.{FreshOr}
 pub use Rattle.store.specs.Settling.{completed_of, complete_hart}
 pub use Rattle.store.specs.Sets.{set_of, number_of, Fine, Startable, configure_at}

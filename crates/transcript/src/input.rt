@@ -4,7 +4,7 @@ ghost use Rattle.std.specs.Prelude.{◌+◌, ◌≤◌, length};
 use std::io::{Error, Read};
 
 // How many bytes were read, and the error of a read that failed.
-#[derive(Clone, Copy)]
+#[derive(Drop)]
 pub struct Got {
     pub n: usize,
     pub failed: Option<Error>,

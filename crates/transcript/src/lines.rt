@@ -96,8 +96,5 @@ pub fn flush<R: Print + Eprint>(rt: &R, out: &[u8], at: usize) -> bool {
 
 // Says on standard error what failed and why; nothing more can be done where that fails too.
 pub fn complain<R: Eprint>(rt: &R, what: &str, error: Error) {
-    match eprintln!(rt; "{what}: {error}") {
-        Ok(()) => (),
-        Err(_) => (),
-    }
+    let _ = eprintln!(rt; "{what}: {error}");
 }

@@ -28,7 +28,3 @@ loop-i-preserved c =
 
 pub returns : goal.returns
 returns c = let l = c.loop-i in let e : l.i ≡ 64 = omega arith in sym (take_all 64 l.block (omega (arith, l.invariant.1.0))) ∙ (rw e at l.invariant.1.1)
-
--- ? Need-same-length
--- same_length : tie.Need-same-length invariant-loop decreases-loop
--- same_length c = c.before.loop.invariant.1.0 ∙ sym c.before.before.before.before.requires.1

@@ -16,7 +16,3 @@ returns c =
     let l = c.loop-h in
     let e : l.h ≡ 128 = omega arith in
     filled-all _ _ (rw e at l.invariant.1)
-
--- ? Need-same-length
--- same_length : tie.Need-same-length invariant-loop decreases-loop
--- same_length c = c.before.loop.invariant.1.size ∙ sym c.before.before.requires
