@@ -5,7 +5,7 @@
 --   passes ws          the words sum to 1 modulo 2^64
 --   record_at ws i     record i of seven
 use Rattle.std.specs.Prelude.{ℕ, zero, suc, ◌+◌, ◌-◌, ◌*◌, ◌%◌, ◌^◌, Bool, ◌&&◌, List, [], ◌∷◌}
-use Rattle.std.specs.Prelude.{◌++◌, ◌==◌, nat_le, nat_lt, slice_index}
+use Rattle.std.specs.Prelude.{◌++◌, ◌==◌, nat_le, nat_lt, slice_index, sum}
 use Rattle.rules.specs.Choice.{when◌then◌else◌}
 use Rattle.blocks.specs.declared.Record.{Record}
 use Rattle.blocks.specs.declared.Record.TheVariants.{Unused, Call, Done, Wake, Event, Unknown}
@@ -20,10 +20,6 @@ word_at bs at =
 unfoldable pub words_at : (n : ℕ) → List ℕ → (at : ℕ) → List ℕ
 words_at zero bs at = []
 words_at (suc n) bs at = words_at n bs at ++ (word_at bs (at + 8 * n) ∷ [])
-
-unfoldable pub sum : List ℕ → ℕ
-sum [] = 0
-sum (w ∷ ws) = w + sum ws
 
 unfoldable pub passes : List ℕ → Bool
 passes ws = sum ws % 2 ^ 64 == 1

@@ -1,10 +1,11 @@
 // A block: 512 bytes, 64 little-endian words, whose first 63 are seven records of nine.
 #![tactic(auto)]
 
-ghost use Rattle.std.specs.Prelude.{◌≡◌, ◌+◌, ◌*◌, ◌<◌, ◌≤◌, ◌&&◌, length};
-ghost use Rattle.blocks.specs.Blocks.{word_at, words_at, passes, is, record_of, record_at};
+ghost use Rattle.std.specs.Prelude.{◌≡◌, ◌+◌, ◌<◌, ◌≤◌, length, slice_get, EachIndex};
+ghost use Rattle.blocks.specs.Blocks.{word_at, words_at, passes, record_at};
 
 use rules::answers::Registers;
+use std::array;
 
 pub type Block = [u64; 64];
 
@@ -12,17 +13,11 @@ pub type Block = [u64; 64];
 #[derive(Clone, Copy)]
 pub enum Record {
     Unused,
-    Call(u64, Registers),
-    Done(u64),
-    Wake(u64),
-    Event(u64, u64),
+    Call { hart: u64, registers: Registers },
+    Done { hart: u64 },
+    Wake { hart: u64 },
+    Event { hart: u64, code: u64 },
     Unknown,
-}
-
-fn wide(b: u8) -> u64
-    ensures { (result ≡ b) × (result < 256) }
-{
-    b as u64
 }
 
 // The little-endian word of the eight bytes from a place on.
@@ -30,21 +25,7 @@ fn word_at(bytes: &[u8], at: usize) -> u64
     requires { at + 8 ≤ length bytes.now }
     ensures { result ≡ word_at bytes.now at }
 {
-    let b0 = wide(bytes[at]);
-    let b1 = wide(bytes[at + 1]);
-    let b2 = wide(bytes[at + 2]);
-    let b3 = wide(bytes[at + 3]);
-    let b4 = wide(bytes[at + 4]);
-    let b5 = wide(bytes[at + 5]);
-    let b6 = wide(bytes[at + 6]);
-    let b7 = wide(bytes[at + 7]);
-    b0 + 256 * b1
-        + 65536 * b2
-        + 16777216 * b3
-        + 4294967296 * b4
-        + 1099511627776 * b5
-        + 281474976710656 * b6
-        + 72057594037927936 * b7
+    u64::from_le_bytes(*bytes[at..].first_chunk().unwrap())
 }
 
 // The 64 words of the 512 bytes from a place on.
@@ -52,86 +33,69 @@ pub fn read(bytes: &[u8], at: usize, block: &mut Block)
     requires { at + 512 ≤ length bytes.now }
     ensures { block.new ≡ words_at 64 bytes.now at }
 {
-    read_into(bytes, at, block);
-}
-
-fn read_into(bytes: &[u8], at: usize, block: &mut [u64])
-    requires { (at + 512 ≤ length bytes.now) × (length block.old ≡ 64) }
-    ensures { block.new ≡ words_at 64 bytes.now at }
-{
-    for i in 0..64 {
-        block[i] = word_at(bytes, at + 8 * i);
-    }
+    *block = array::from_fn(|i| word_at(bytes, at + 8 * i));
 }
 
 // Whether the words of a block sum to 1 modulo 2^64.
+#[tactic(auto, using(crate::proofs::Adding::sum_wraps), unfolding(crate::specs::Blocks::passes))]
 pub fn check(block: &Block) -> bool
     ensures { result ≡ passes block.now }
 {
-    check_all(block)
-}
-
-fn check_all(words: &[u64]) -> bool
-    requires { length words.now ≡ 64 }
-    ensures { result ≡ passes words.now }
-{
-    let mut total: u64 = 0;
-    for i in 0..64 {
-        total = std::num::wrapping_add_u64(total, words[i]);
-    }
+    let total = block
+        .iter()
+        .fold(0u64, |total, &word| total.wrapping_add(word));
     total == 1
 }
 
-// Whether a first word is of a kind, with a hart number up to 127.
-fn is_kind(kind: u64, first: u64) -> bool
-    requires { kind ≤ 1024 }
-    ensures { result ≡ is kind first }
-{
-    if first < kind {
-        return false;
-    }
-    first < kind + 128
-}
+// The record of nine words.
+impl From<[u64; 9]> for Record {
+    ghost from_gives = { λ words made. made ≡ record_at words 0 };
 
-// What a record of nine words asks for.
-fn record_of(first: u64, r: Registers) -> Record
-    ensures { result ≡ record_of first r.a7 r.a6 r.a0 r.a1 r.a2 r.a3 r.a4 r.a5 }
-{
-    if first == 0 {
-        return Record::Unused;
+    // "Words 0 to 62 are seven records of nine: kind and hart h, EID, FID, a0 to a5."
+    #[tactic(auto, using(crate::proofs::Cases::kinds), unfolding(crate::specs::Blocks::record_of))]
+    fn from(words: [u64; 9]) -> Self {
+        let [first, eid, fid, a0, a1, a2, a3, a4, a5] = words;
+        // "First word: 0 unused, 256 + h call, 512 + h done, 768 + h wake, 1024 + h event with its
+        // code next; h is at most 127, all others H7."
+        match first {
+            0 => Record::Unused,
+            256..=383 => Record::Call {
+                hart: first - 256,
+                registers: Registers {
+                    a0,
+                    a1,
+                    a2,
+                    a3,
+                    a4,
+                    a5,
+                    a6: fid,
+                    a7: eid,
+                },
+            },
+            512..=639 => Record::Done { hart: first - 512 },
+            768..=895 => Record::Wake { hart: first - 768 },
+            1024..=1151 => Record::Event {
+                hart: first - 1024,
+                code: eid,
+            },
+            _ => Record::Unknown,
+        }
     }
-    if is_kind(256, first) {
-        return Record::Call(first - 256, r);
-    }
-    if is_kind(512, first) {
-        return Record::Done(first - 512);
-    }
-    if is_kind(768, first) {
-        return Record::Wake(first - 768);
-    }
-    if is_kind(1024, first) {
-        return Record::Event(first - 1024, r.a7);
-    }
-    Record::Unknown
 }
 
 // Record i of seven.
+#[tactic(auto, using(crate::proofs::Chunks::record_of_chunk))]
 pub fn record_at(block: &Block, i: usize) -> Record
     requires { i < 7 }
     ensures { result ≡ record_at block.now i }
 {
-    let at = 9 * i;
-    record_of(
-        block[at],
-        Registers {
-            a0: block[at + 3],
-            a1: block[at + 4],
-            a2: block[at + 5],
-            a3: block[at + 6],
-            a4: block[at + 7],
-            a5: block[at + 8],
-            a6: block[at + 2],
-            a7: block[at + 1],
-        },
-    )
+    let (records, _) = block.as_chunks();
+    Record::from(records[i])
+}
+
+// The seven records.
+pub fn records(block: &Block) -> [Record; 7]
+    ensures { EachIndex result (λ i. slice_get result i ≡ Some (record_at block.now i)) }
+{
+    array::from_fn(|i| record_at(block, i))
 }

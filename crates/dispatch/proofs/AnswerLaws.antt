@@ -1,30 +1,31 @@
 -- What an answer tells of a reply: whether it was accepted, how many words of actions there are, and that a status
 -- call answered with a value was ready.
 use mathlib.Core.Path.{◌≡◌, refl, sym, ap, ap₂, ◌∙◌}
-use mathlib.Core.Bool.{Bool, true, false, not, ◌&&◌}
-use mathlib.Core.List.{List, [], ◌∷◌, Memᴰ}
+use mathlib.Core.Bool.{true, false}
+use mathlib.Core.List.{List}
 use Prim.Native.Nat.{ℕ, ◌*◌}
 use lib.Dec.{eqb}
-use lib.IntN.{ℤ}
 use lib.ListN.{length, take, drop}
-use borrow.Author.Tests.{not-true, not-false, ltb-false, le-leb}
+use borrow.Author.Tests.{not-false, ltb-false, le-leb}
 use Rattle.rules.specs.Replies.{words_of, view, Reply, refused, failed, did, accepted, answer_of, actions_of, front_of}
 use Rattle.rules.specs.Replies.{memory_after}
 use Rattle.rules.specs.Names.{STARTED, action_memory}
 use Rattle.rules.specs.Tables.{Tables, state_of}
-use Rattle.rules.specs.Requests.{LifeRequest, PlainRequest, Request, base_architecture, base_implementation}
-use Rattle.rules.specs.Requests.{base_implementation_version, base_machine, base_probe, base_vendor, base_version}
-use Rattle.rules.specs.Requests.{counter_configure, counter_count, counter_details, counter_read, counter_read_high}
-use Rattle.rules.specs.Requests.{counter_start, counter_stop, fence, hart_start, hart_status, hart_stop, hart_suspend}
-use Rattle.rules.specs.Requests.{interrupt, life, other, request, unknown}
-use Rattle.rules.specs.Machine.{Operation, call, completion, waking, event, request_reply, enabled_reply, checked_reply}
+use Rattle.rules.specs.Requests.{Request}
+use Rattle.rules.specs.Requests.{hart_status}
+use Rattle.rules.specs.Requests.{other, request}
+use Rattle.rules.specs.Machine.{Operation, call, request_reply, enabled_reply, checked_reply}
 use Rattle.rules.specs.Machine.{reply}
 use Rattle.rules.specs.Rows.{passes, ready}
-use Rattle.rules.specs.Refusals.{errors_of, request_errors, Listed, listed-refusal, listed-error, no-refusal}
-use Rattle.rules.specs.declared.answers.Answer.{Answer}
+use Rattle.rules.specs.Refusals.{Listed, listed-refusal, listed-error, no-refusal}
+use Rattle.rules.specs.Answers.{Answer, error_number}
+use Rattle.rules.specs.declared.answers.Error.{Error}
+use Rattle.rules.specs.declared.answers.Error.TheVariants.{NotSupported, InvalidParam, InvalidAddress}
+use Rattle.rules.specs.declared.answers.Error.TheVariants.{AlreadyAvailable, AlreadyStarted, AlreadyStopped}
+use Rattle.rules.specs.declared.answers.Error.TheVariants.{NoSharedMemory}
 use Rattle.rules.specs.declared.answers.Registers.{Registers}
 use Rattle.rules.specs.declared.platform.Platform.{Platform}
-use Rattle.rules.proofs.Logic.{and_l, and_r, and-of, false-true}
+use Rattle.rules.proofs.Logic.{and-of, false-true}
 use Rattle.rules.proofs.Passed.{if-did, accepted-did}
 use Rattle.rules.proofs.Theorems.{front-exact}
 use Rattle.dispatch.specs.Meets.{count_in}
@@ -54,55 +55,21 @@ module _ (q : Reply) (a : Answer) (answered : a ≡ answer_of q) (m m' : List �
 
 -- ----- no error is 0
 
-abbrev none_zero : List ℤ → Bool
-none_zero [] = true
-none_zero (e ∷ es) = not (is_zero e) && none_zero es
-
-zero-missing : {e : ℤ} {l : List ℤ} → Memᴰ e l → none_zero l ≡ true → is_zero e ≡ false
-zero-missing (Memᴰ.head {x} s) n = ap is_zero s ∙ not-true _ (and_l (not (is_zero x)) _ n)
-zero-missing (Memᴰ.tail {x} i) n = zero-missing i (and_r (not (is_zero x)) _ n)
-
-life-errors : (x : LifeRequest) → none_zero (request_errors (life x)) ≡ true
-life-errors (hart_start k a o) = refl
-life-errors hart_stop = refl
-life-errors (hart_suspend y a o) = refl
-
-plain-errors : (x : PlainRequest) → none_zero (request_errors (other x)) ≡ true
-plain-errors base_version = refl
-plain-errors base_implementation = refl
-plain-errors base_implementation_version = refl
-plain-errors (base_probe e) = refl
-plain-errors base_vendor = refl
-plain-errors base_architecture = refl
-plain-errors base_machine = refl
-plain-errors (interrupt m base) = refl
-plain-errors (fence f m base s n i) = refl
-plain-errors (hart_status k) = refl
-plain-errors counter_count = refl
-plain-errors (counter_details i) = refl
-plain-errors (counter_configure base m flags e d) = refl
-plain-errors (counter_start base m flags x) = refl
-plain-errors (counter_stop base m flags) = refl
-plain-errors (counter_read i) = refl
-plain-errors (counter_read_high i) = refl
-plain-errors unknown = refl
-
-request-errors : (x : Request) → none_zero (request_errors x) ≡ true
-request-errors (life x) = life-errors x
-request-errors (other x) = plain-errors x
-
-errors-none-zero : (op : Operation) → none_zero (errors_of op) ≡ true
-errors-none-zero (call room h q) = request-errors (request q)
-errors-none-zero (completion room h) = refl
-errors-none-zero (waking room h) = refl
-errors-none-zero (event h e) = refl
+no-zero : (e : Error) → is_zero (error_number e) ≡ false
+no-zero NotSupported = refl
+no-zero InvalidParam = refl
+no-zero InvalidAddress = refl
+no-zero AlreadyAvailable = refl
+no-zero AlreadyStarted = refl
+no-zero AlreadyStopped = refl
+no-zero NoSharedMemory = refl
 
 -- ----- accepted or not
 
 pub success-shown : {op : Operation} {q : Reply} → Listed op q → is_success (answer_of q) ≡ accepted q
 unfolding answer_of
 success-shown (listed-refusal i) = refl
-success-shown {op} (listed-error i) = zero-missing i (errors-none-zero op)
+success-shown (listed-error {e} i) = no-zero e
 success-shown no-refusal = refl
 
 pub answer-listed : {op : Operation} {q : Reply} → Listed op q → accepted q ≡ false → ListedAnswer op (answer_of q)

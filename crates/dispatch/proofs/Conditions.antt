@@ -7,14 +7,15 @@ use lib.ListN.{length}
 use Rattle.rules.specs.Tables.{Tables, state_of, well_formed}
 use Rattle.rules.specs.Machine.{after, Operation, call, reply}
 use Rattle.rules.specs.Replies.{front_of, words_of, memory_after, laid, accepted, answer_of}
-use Rattle.rules.specs.Names.{HSM, success}
+use Rattle.rules.specs.Names.{HSM}
 use Rattle.rules.specs.Lives.{Reading, placed}
 use Rattle.rules.specs.Rows.{tables_now, row_now, ready}
 use Rattle.rules.specs.Promises.{LivesOf}
 use Rattle.tables.specs.Keeping.{Holds, seen}
 use Rattle.rules.specs.declared.platform.Platform.{Platform}
 use Rattle.rules.specs.declared.answers.Registers.{Registers}
-use Rattle.rules.specs.declared.answers.Answer.TheVariants.{Pair}
+use Rattle.rules.specs.Answers.{done, Answer}
+use Rattle.std.specs.Prelude.{Ok, Err}
 use Rattle.rules.specs.declared.actions.Action.{Action}
 use Rattle.tables.proofs.Laws.{held-once}
 use Rattle.rules.proofs.Theorems.{refusals-alter-nothing, refusals-listed, well-formed-kept, lives-hold}
@@ -65,6 +66,11 @@ front-is-actions p op t t' m a m' r x b = b.0 ∙ (condition-2 p op t t' m m'.no
 
 -- ----- condition 3
 
+-- the value in an answer
+abbrev value_in : Answer → ℕ
+value_in (Ok d) = d.value
+value_in (Err d) = 0
+
 -- on rows that hold the tables of the history
 module _ (p : Platform) (ops : List Operation) (t : List (List ℕ)) (h : ℕ) (held : Holds t (tables_now p ops))
     (lives : LivesOf p ops h) where
@@ -75,16 +81,14 @@ module _ (p : Platform) (ops : List Operation) (t : List (List ℕ)) (h : ℕ) (
   same-ready op e = ap (λ (s : Tables). ready p s op) (sym held.is) ∙ e
 
   status-placed : (r : Reading (row_now p ops h)) (k v : ℕ) (q : Registers) (t' : List (List ℕ)) (m m' : List ℕ)
-      → q.a7 ≡ HSM → q.a6 ≡ 2 → q.a0 ≡ h → Step p (call (length m) k q) t t' m m' (Pair success v false 0)
+      → q.a7 ≡ HSM → q.a6 ≡ 2 → q.a0 ≡ h → Step p (call (length m) k q) t t' m m' (Ok (done v false 0))
       → v ≡ placed r
   status-placed r k v q t' m m' a7 a6 a0 x =
       let op = call (length m) k q in
-      let done = sym (answers-show p op t t' m m' (Pair success v false 0) x) in
+      let shown = sym (answers-show p op t t' m m' (Ok (done v false 0)) x) in
       let told = lives.reported r (length m) k q a7 a6 a0
-      (same-ready op (status-ready p (seen t) (length m) k q (request-hsm q a7 ∙ hart-2 q a6) done)) in
-      let same : Pair success v false 0 ≡ Pair success (placed r) false 0 =
-      x.meets.answer ∙ ap answer_of (same-reply op) ∙ told in
-      cc
+      (same-ready op (status-ready p (seen t) (length m) k q (request-hsm q a7 ∙ hart-2 q a6) shown)) in
+      ap value_in (x.meets.answer ∙ ap answer_of (same-reply op) ∙ told)
 
   lives-on-rows : LivesOnRows p ops t h
   lives-on-rows = record {

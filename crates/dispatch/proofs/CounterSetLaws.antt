@@ -1,27 +1,37 @@
 -- Laws of sets of counters: a mask shifted by its base is the word of the set that the two name. And of one counter:
--- when it can be read, which events it can have, and which is chosen.
+-- when it can be read. And what `?` hands back where a counter call is denied.
 use mathlib.Core.Path.{◌≡◌, refl, sym, ap, ◌∙◌, subst}
 use mathlib.Core.Bool.{Bool, true, false, ◌&&◌}
-use mathlib.Core.List.{List, [], ◌∷◌, Memᴰ}
-use mathlib.Core.Option.{Option, none, some}
+use mathlib.Core.List.{List, Memᴰ}
 use Prim.Native.Nat.{ℕ, suc, ◌+◌, ◌*◌, ◌-◌, ◌/◌, ◌%◌, ◌^◌, ◌<◌, ◌≤◌}
 use native.Mathlib.Nat.{div-eq_of_lt, div-lt_iff_lt-mul, mul_assoc, zero-mul}
 use native.Mathlib.Omega.{arith}
 use lib.Bits.{shifted_even}
-use lib.Dec.{eqb, ltb, leb, lit<}
+use lib.Dec.{eqb, ltb, lit<}
 use lib.Pow.{pow_pos, pow_mono, pow-add, shl_exact, shl-shr, shr-shr, shr_le}
-use borrow.Author.Tests.{ltb-true, leb-true, eqb-true, lt-ltb, le-ltb, lt-leb, le-leb, eq-eqb, ne_eqb}
-use Rattle.rules.specs.Names.{counters, first_event, last_event, last_code}
-use Rattle.rules.specs.Sets.{bit, numbers, names, all, first, keep}
-use Rattle.rules.specs.Counters.{counter_set, is_counter, is_mapped, is_event, chosen, can_read}
+use borrow.Author.Tests.{ltb-true, eqb-true, lt-ltb, lt-leb, le-leb, eq-eqb, ne_eqb}
+use Rattle.std.specs.Prelude.{Result, Ok, Err, is_some}
+use Rattle.std.specs.Result.{IsErr, IsErrAnd}
+use Rattle.std.proofs.lemmas.Result.{err_from_is_err_and}
+use Rattle.rules.specs.Names.{counters}
+use Rattle.rules.specs.Sets.{bit, numbers, names, all}
+use Rattle.rules.specs.Counters.{counter_set, is_counter, is_mapped, can_read}
+use Rattle.rules.specs.Replies.{view, Plain, fails, plain}
 use Rattle.rules.specs.Tables.{counter_at}
-use Rattle.tables.specs.Keeping.{set_of, number_of}
+use Rattle.rules.specs.Answers.{Answer}
+use Rattle.tables.specs.Keeping.{seen, Shaped, set_of}
+use Rattle.rules.specs.declared.answers.Denial.TheVariants.{Failed}
+use Rattle.rules.specs.declared.answers.Error.{Error}
+use Rattle.rules.specs.declared.answers.Error.TheVariants.{InvalidParam}
 use Rattle.rules.specs.declared.platform.Platform.{Platform}
 use Rattle.rules.specs.declared.records.Counter.{Counter}
-use Rattle.rules.proofs.Logic.{clash, below_or, false-if, same_test, and_l, and_r}
-use Rattle.rules.proofs.SetLaws.{those-ext, those-only}
-use Rattle.rules.proofs.Ascending.{all_in, all_of, keep-only, numbers-in, numbers-only, numbers-those}
+use Rattle.rules.proofs.Logic.{clash, below_or, false-if, same_test}
+use Rattle.rules.proofs.SetLaws.{those-ext}
+use Rattle.rules.proofs.Ascending.{all_in, all_of, numbers-in, numbers-only, numbers-those}
 use Rattle.rules.proofs.platform.BitLaws.{bits-one}
+use Rattle.dispatch.specs.Meets.{Keeps}
+use Rattle.dispatch.specs.Sets.{SetGiven, ReadGiven}
+use Rattle.dispatch.proofs.MeetsLaws.{plain-handing}
 
 -- ----- bits of a word shifted
 
@@ -108,93 +118,67 @@ module _ (b m : ℕ) where
 
   module _ (p : Platform) (s : m < 2 ^ 64) where
     -- the counters fit just where nothing of the mask lies past them
-    pub fits_word : all is_counter (counter_set p b m) ≡ eqb (m / 2 ^ (counters - b)) 0
+    fits_word : all is_counter (counter_set p b m) ≡ eqb (m / 2 ^ (counters - b)) 0
     unfolding is_counter counter_set
     fits_word =
         same_test _ _
         (λ a. eq-eqb _ _ (nothing-past s a))
         (λ e. all_of is_counter (numbers 64 b m) (λ h t. lt-ltb h counters (small (eqb-true _ _ e) h t)))
 
+    -- the word of a set that fits
+    pub word-shifted : b < counters → m / 2 ^ (counters - b) ≡ 0 → SetGiven p b m (Ok (m * 2 ^ b % 2 ^ 64))
+    unfolding counter_set
+    word-shifted l e = (
+      fits_word ∙ eq-eqb _ _ e,
+      ap (λ (x : ℕ). set_of x) (shl_exact (counters - b) b 64 (under e) (omega arith)) ∙ shifted e,
+    )
+
     -- an empty mask names nothing
-    pub fits-empty : m ≡ 0 → all is_counter (counter_set p b m) ≡ true
-    fits-empty e =
+    pub word-empty : m ≡ 0 → SetGiven p b m (Ok 0)
+    unfolding counter_set
+    word-empty z =
         let l : m < 2 ^ (counters - b) = omega (arith, pow_pos (counters - b)) in
-        fits_word ∙ eq-eqb _ _ (div-eq_of_lt l)
+        let e = div-eq_of_lt l in (
+          fits_word ∙ eq-eqb _ _ e,
+          ap (λ (x : ℕ). set_of x) (sym (ap (λ (x : ℕ). x * 2 ^ b) z ∙ zero-mul (2 ^ b))) ∙ shifted e,
+        )
 
-    pub fits-nowhere : (m ≡ 0 → ⊥) → counters ≤ b → all is_counter (counter_set p b m) ≡ false
-    fits-nowhere n l = fits_word ∙ ne_eqb _ _ (λ e. n (none-past l e))
+    -- a set of which something lies past the counters has none
+    pub word-past : (m / 2 ^ (counters - b) ≡ 0 → ⊥) → SetGiven p b m (Err InvalidParam)
+    word-past n = (fits_word ∙ ne_eqb _ _ n, refl)
 
-    module _ (a : all is_counter (counter_set p b m) ≡ true) where
-      past : m / 2 ^ (counters - b) ≡ 0
-      past = eqb-true _ _ (sym fits_word ∙ a)
-
-      -- the word of a set that fits
-      pub word-shifted : b < counters → set_of (m * 2 ^ b % 2 ^ 64) ≡ counter_set p b m
-      unfolding counter_set
-      word-shifted l =
-          ap (λ (x : ℕ). set_of x) (shl_exact (counters - b) b 64 (under past) (omega arith)) ∙ shifted past
-
-      pub word-empty : counters ≤ b → set_of 0 ≡ counter_set p b m
-      unfolding counter_set
-      word-empty l =
-          ap (λ (x : ℕ). set_of x) (sym (ap (λ (x : ℕ). x * 2 ^ b) (none-past l past) ∙ zero-mul (2 ^ b))) ∙ shifted past
+    pub word-nowhere : (m ≡ 0 → ⊥) → counters ≤ b → SetGiven p b m (Err InvalidParam)
+    word-nowhere n l = word-past (λ e. n (none-past l e))
 
 -- a test of each counter of a set, by another name of the set
 pub all-by : (f : ℕ → Bool) {l k : List ℕ} {b v : Bool} → l ≡ k → b ≡ all f l → b ≡ v → all f k ≡ v
 all-by f e a q = ap (all f) (sym e) ∙ sym a ∙ q
 
--- ----- one counter
-
-pub is-counter : (i : ℕ) → i < counters → is_counter i ≡ true
-unfolding is_counter
-is-counter i l = lt-ltb i counters l
-
-pub no-counter : (i : ℕ) → counters ≤ i → is_counter i ≡ false
-unfolding is_counter
-no-counter i l = le-ltb i counters l
+-- ----- one counter that is read
 
 module _ (cs : List Counter) (i : ℕ) where
-  pub over-unread : counters ≤ i → can_read cs i ≡ false
+  pub over-unread : is_counter i ≡ false → can_read cs i ≡ is_counter i
   unfolding can_read
-  over-unread l = ap (λ (b : Bool). b && is_mapped cs i) (no-counter i l)
+  over-unread e = ap (λ (b : Bool). b && is_mapped cs i) e ∙ sym e
 
-  module _ (l : i < counters) (c : Counter) (e : c ≡ counter_at cs i) where
-    pub mapped-read : can_read cs i ≡ c.mapped
-    unfolding can_read is_mapped
-    mapped-read =
-        ap (λ (b : Bool). b && is_mapped cs i) (is-counter i l) ∙ ap (λ (x : Counter). x.mapped) (sym e)
+  -- a counter that is one of the eight can be read if it is mapped
+  pub mapped-read : {n : ℕ} (c : Counter) {v : Bool} → (is_counter i ≡ true) × (n ≡ i) → c ≡ counter_at cs n
+      → v ≡ is_some c.event → can_read cs i ≡ v
+  unfolding can_read is_mapped
+  mapped-read c g e m =
+      ap (λ (b : Bool). b && is_mapped cs i) g.0
+      ∙ ap (λ (x : Counter). is_some x.event) (sym (e ∙ ap (counter_at cs) g.1)) ∙ sym m
 
--- ----- events
+  -- the error that `?` hands on
+  pub unread : {b : Bool} (r : Result Counter Error) {x : Error} → (b ≡ false) × (x ≡ InvalidParam)
+      → can_read cs i ≡ b → IsErr r × IsErrAnd r (λ y. y ≡ x) → ReadGiven cs i r
+  unread r q k g = let p = err_from_is_err_and r g.1 in rw p.1 (k ∙ q.0, p.2 ∙ q.1)
 
-pub event-from : (e : ℕ) → is_event e ≡ true → first_event ≤ e
-unfolding is_event
-event-from e a = leb-true _ _ (and_l _ _ a)
+-- ----- what `?` answers in a call that alters no hart record
 
-pub event-to : (e : ℕ) → is_event e ≡ true → e - first_event ≤ last_code
-unfolding is_event
-event-to e a =
-    let l : e ≤ last_event = leb-true _ _ (and_r (leb first_event e) (leb e last_event) a) in
-    omega arith
-
--- ----- the number of a counter that is chosen
-
-number-some : (o : Option ℕ) (n : ℕ) → n ≡ number_of o → n < counters → o ≡ some n
-number-some none n e l = absurd (omega arith)
-number-some (some i) n e l = ap some (sym e)
-
-first-none : (l : List ℕ) → ((i : ℕ) → Memᴰ i l → i < counters) → counters ≤ number_of (first l) → first l ≡ none
-unfolding first
-first-none [] f g = refl
-first-none (x ∷ l) f g = absurd (omega (arith, f x (Memᴰ.head refl)))
-
-module _ (flags : ℕ) (cs : List Counter) (s n : ℕ) {l : List ℕ} (k : set_of s ≡ l)
-    (e : n ≡ number_of (chosen flags cs (set_of s))) where
-  pub chosen-some : n < counters → chosen flags cs l ≡ some n
-  chosen-some m = ap (chosen flags cs) (sym k) ∙ number-some _ n e m
-
-  pub chosen_none : counters ≤ n → chosen flags cs l ≡ none
-  unfolding chosen
-  chosen_none m =
-      ap (chosen flags cs) (sym k)
-      ∙ first-none (keep _ (set_of s)) (λ i t. (those-only (bit s) counters i (keep-only _ (set_of s) t).0).0)
-      (subst (λ (x : ℕ). counters ≤ x) e m)
+module _ (t : List (List ℕ)) (h : ℕ) (s : Shaped t) where
+  pub plain-denied : {b : Bool} {w : Plain} {r : Answer} {e x : Error} → (b ≡ false) × (x ≡ e)
+      → (b ≡ false → w ≡ fails e) → IsErr r × IsErrAnd r (λ y. y ≡ Failed x)
+      → Keeps t h (plain (view (seen t) h) w) r
+  plain-denied q f g =
+      plain-handing t h s _ _ _ g q.1 (f q.0)

@@ -2,9 +2,7 @@
 use mathlib.Core.Path.{◌≡◌, refl, sym, ap, ◌∙◌}
 use mathlib.Core.Bool.{Bool, true, false}
 use mathlib.Core.List.{List, [], ◌∷◌, ◌++◌}
-use Prim.Native.Nat.{zero, suc, ◌<◌, ℕ, ◌+◌}
-use native.Mathlib.Omega.{arith}
-use Rattle.rules.specs.Fences.{sent_code}
+use Prim.Native.Nat.{ℕ, ◌+◌}
 use Rattle.rules.specs.Sets.{those}
 use Rattle.rules.specs.Tables.{Tables}
 use Rattle.rules.specs.Replies.{tell_one, tell}
@@ -35,15 +33,3 @@ module _ (s : Tables) (h e : ℕ) (f : ℕ → Bool) (a : List (List ℕ)) (k : 
 
   pub telling-miss : f k ≡ false → Holds a (told s h e (those (k + 1) f))
   telling-miss n = rw (those-miss f k n) w
-
--- a sent fence's code leaves room for the received one
-pub sent-small : (f : ℕ) → f < 7 → sent_code f < 21
-unfolding sent_code
-sent-small zero l = omega arith
-sent-small (suc zero) l = omega arith
-sent-small (suc (suc zero)) l = omega arith
-sent-small (suc (suc (suc zero))) l = omega arith
-sent-small (suc (suc (suc (suc zero)))) l = omega arith
-sent-small (suc (suc (suc (suc (suc zero))))) l = omega arith
-sent-small (suc (suc (suc (suc (suc (suc zero)))))) l = omega arith
-sent-small (suc (suc (suc (suc (suc (suc (suc n))))))) l = absurd (omega arith)

@@ -1,9 +1,9 @@
 -- THE CONDITIONS of README.md, of every step of the host's functions, each under its sentence;
 -- proofs/Conditions has a theorem for each. Rows are Shaped if they have the shape of their type:
 -- `tables::well_formed` tells it of any rows, and every step leaves rows that have it.
-use Rattle.std.specs.Prelude.{◌≡◌, true, false, ℕ, ◌*◌, ℤ, length, take, drop}
+use Rattle.std.specs.Prelude.{◌≡◌, true, false, ℕ, ◌*◌, length, take, drop, Ok, Err}
 use mathlib.Core.List.{List, [], ◌∷◌, ◌++◌, Memᴰ}
-use Rattle.rules.specs.Names.{success, HSM}
+use Rattle.rules.specs.Names.{HSM}
 use Rattle.rules.specs.Platform.{enabled, platform_accepted}
 use Rattle.rules.specs.Tables.{state_of, well_formed}
 use Rattle.rules.specs.Replies.{accepted, answer_of, memory_after, front_of}
@@ -13,8 +13,10 @@ use Rattle.rules.specs.Rows.{◌does◌, event_of, row_now, ready}
 use Rattle.rules.specs.Refusals.{errors_of, refusals_of}
 use Rattle.rules.specs.Promises.{LivesOf, Alike}
 use Rattle.tables.specs.Keeping.{seen, Shaped, Holds}
-use Rattle.rules.specs.declared.answers.Answer.{Answer}
-use Rattle.rules.specs.declared.answers.Answer.TheVariants.{Pair, Refused}
+use Rattle.rules.specs.Answers.{done, Answer}
+use Rattle.rules.specs.declared.answers.Error.{Error}
+use Rattle.rules.specs.declared.answers.Refusal.{Refusal}
+use Rattle.rules.specs.declared.answers.Denial.TheVariants.{Refused, Failed}
 use Rattle.rules.specs.declared.answers.Registers.{Registers}
 use Rattle.rules.specs.declared.platform.Platform.{Platform}
 use Rattle.std.specs.Borrow.{MutBor}
@@ -25,8 +27,8 @@ use Rattle.dispatch.specs.Steps.{Step, Run, Freshens, HandsBack, is_success}
 
 -- "A refusal gives its listed number": Hk, or the error with 0, no mark and no actions
 pub data ListedAnswer (op : Operation) : Answer → Type 0 where
-  answers-refusal : {k : ℕ} → Memᴰ k (refusals_of op) → ListedAnswer op (Refused k)
-  answers-error : {e : ℤ} → Memᴰ e (errors_of op) → ListedAnswer op (Pair e 0 false 0)
+  answers-refusal : {k : Refusal} → Memᴰ k (refusals_of op) → ListedAnswer op (Err (Refused k))
+  answers-error : {e : Error} → Memᴰ e (errors_of op) → ListedAnswer op (Err (Failed e))
 
 -- "Every refusal, error pairs included, leaves the tables and all action memory unaltered; the
 -- front part handed back is then empty."
@@ -86,7 +88,7 @@ pub record LivesOnRows (p : Platform) (ops : List Operation) (t : List (List ℕ
   pub status : (r : Reading (row_now p ops h)) → state_of (seen t).harts h ≡ placed r
   pub reported : (r : Reading (row_now p ops h)) (k v : ℕ) (q : Registers) (t' : List (List ℕ))
       (m m' : List ℕ) → q.a7 ≡ HSM → q.a6 ≡ 2 → q.a0 ≡ h
-      → Step p (call (length m) k q) t t' m m' (Pair success v false 0) → v ≡ placed r
+      → Step p (call (length m) k q) t t' m m' (Ok (done v false 0)) → v ≡ placed r
   -- "An event that fits is accepted if its action memory is long enough and, for a call, its caller
   -- is running and its type and address pass; one that does not fit is refused."
   pub accepts : (e : Event) (op : Operation) (t' : List (List ℕ)) (m m' : List ℕ) (a : Answer)

@@ -4,17 +4,21 @@
 --   Keeps t h q r           the same of a function that alters neither rows nor memory
 --   Ready p t m h           what a function behind the host's tests may rely on
 --   WellFormed p t          what a function behind the test of the tables may rely on
+--   Admitted p room h o     what a hart number is taken for: H4, H2, or the hart
 --   count_in                the number of actions in an answer
 --   told_one, told          the tables once one hart, or some, were told of an event
 --   put_action              memory with one action put at a place
-use Rattle.std.specs.Prelude.{◌≡◌, List, [], ◌∷◌, ◌++◌, true, ℕ, ◌+◌, ◌≤◌, length, take, drop}
+use Rattle.std.specs.Prelude.{◌≡◌, List, [], ◌∷◌, ◌++◌, true, false, ℕ, ◌+◌, ◌≤◌, length, take, drop}
+use Rattle.std.specs.Prelude.{ltb, Result, Ok, Err}
 use Rattle.rules.specs.Names.{action_memory}
 use Rattle.rules.specs.Platform.{enabled, platform_accepted}
 use Rattle.rules.specs.Tables.{Tables, tables_well_formed}
 use Rattle.rules.specs.Replies.{Reply, tell_one, tell, commit, answer_of, memory_after}
 use Rattle.tables.specs.Keeping.{seen, Shaped, Holds}
-use Rattle.rules.specs.declared.answers.Answer.{Answer}
-use Rattle.rules.specs.declared.answers.Answer.TheVariants.{Pair, Refused}
+use Rattle.rules.specs.Answers.{Answer}
+use Rattle.rules.specs.declared.ids.HartId.{HartId}
+use Rattle.rules.specs.declared.answers.Refusal.{Refusal}
+use Rattle.rules.specs.declared.answers.Refusal.TheVariants.{ShortMemory, NotEnabled}
 use Rattle.rules.specs.declared.actions.Action.{Action}
 use Rattle.rules.specs.declared.platform.Platform.{Platform}
 
@@ -50,6 +54,16 @@ pub record WellFormed (p : Platform) (t : List (List ℕ)) : Type 0 where
   pub accepted : platform_accepted p ≡ true
   pub fine : tables_well_formed p (seen t) ≡ true
 
+-- the hart h that is admitted with so many words of action memory: H4 is tested before H2
+pub data Denied (p : Platform) (room h : ℕ) : Refusal → Type 0 where
+  short : ltb room action_memory ≡ true → Denied p room h ShortMemory
+  off : ltb room action_memory ≡ false → enabled p h ≡ false → Denied p room h NotEnabled
+
+abbrev pub Admitted : Platform → (room h : ℕ) → Result HartId Refusal → Type 0
+Admitted p room h (Ok x) =
+    (ltb room action_memory ≡ false) × ((enabled p h ≡ true) × (x.number ≡ h))
+Admitted p room h (Err k) = Denied p room h k
+
 abbrev pub count_in : Answer → ℕ
-count_in (Pair e v parked n) = n
-count_in (Refused k) = 0
+count_in (Ok d) = d.actions
+count_in (Err d) = 0

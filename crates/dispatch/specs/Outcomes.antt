@@ -8,7 +8,7 @@ use Rattle.rules.specs.Machine.{Operation, call, completion, waking, event, hart
 use Rattle.rules.specs.Machine.{reply, after_all}
 use Rattle.rules.specs.Rows.{tables_now}
 use Rattle.tables.specs.Keeping.{seen, Holds}
-use Rattle.rules.specs.declared.answers.Answer.{Answer}
+use Rattle.rules.specs.Answers.{Answer}
 use Rattle.rules.specs.declared.answers.Registers.{Registers}
 use Rattle.rules.specs.declared.platform.Platform.{Platform}
 use Rattle.std.specs.Borrow.{MutBor}

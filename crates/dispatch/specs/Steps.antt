@@ -6,13 +6,14 @@
 --   HandsBack m a r         the contract of `front`: the part r of the memory m for the answer a
 --   is_success a            a pair whose error is 0
 use Rattle.std.specs.Prelude.{◌≡◌, List, [], ◌∷◌, Bool, false, ℕ, ◌*◌, eqb, ℤ, pos, negsuc, length}
-use Rattle.std.specs.Prelude.{take}
+use Rattle.std.specs.Prelude.{take, Ok, Err}
+use Rattle.rules.specs.Names.{success}
 use Rattle.rules.specs.Platform.{platform_accepted}
 use Rattle.rules.specs.Machine.{Operation, call, completion, waking, event, hart_of, reply}
 use Rattle.rules.specs.Machine.{fresh_answer}
 use Rattle.tables.specs.Keeping.{seen, FreshOr}
-use Rattle.rules.specs.declared.answers.Answer.{Answer}
-use Rattle.rules.specs.declared.answers.Answer.TheVariants.{Pair, Refused}
+use Rattle.rules.specs.Answers.{error_number, Answer}
+use Rattle.rules.specs.declared.answers.Denial.TheVariants.{Refused, Failed}
 use Rattle.rules.specs.declared.platform.Platform.{Platform}
 use Rattle.std.specs.Borrow.{MutBor}
 use Rattle.dispatch.specs.Meets.{Meets, count_in}
@@ -52,5 +53,6 @@ is_zero (negsuc n) = false
 
 -- neither Hk nor an error pair
 abbrev pub is_success : Answer → Bool
-is_success (Pair e v parked n) = is_zero e
-is_success (Refused k) = false
+is_success (Ok d) = is_zero success
+is_success (Err (Failed e)) = is_zero (error_number e)
+is_success (Err (Refused k)) = false

@@ -3,75 +3,68 @@
 ghost use Rattle.std.specs.Prelude.{List, ℕ, length};
 ghost use Rattle.rules.specs.Machine.{call, completion, waking, event, checked_reply};
 ghost use Rattle.tables.specs.Keeping.{seen};
-ghost use Rattle.dispatch.specs.Meets.{Meets, WellFormed};
+ghost use Rattle.dispatch.specs.Meets.{Meets, WellFormed, Admitted};
 
+use crate::checks::ensure;
 use crate::running::{answer, complete, rouse};
-use rules::answers::{Answer, Registers};
-use rules::numbers::{ACTION_MEMORY, LAST_REPORTED, STARTED};
+use rules::answers::{Answer, Refusal, Registers, Success};
+use rules::ids::{EventCode, HartId};
+use rules::numbers::{ACTION_MEMORY, STARTED};
 use rules::platform::Platform;
 use tables::Rows;
 
-// A call of hart h.
-pub fn call(p: Platform, t: &mut Rows, actions: &mut [u64], h: u64, r: Registers) -> Answer
-    requires { WellFormed p t.old }
-    ensures { Meets t.old t.new actions.old actions.new h
-        (checked_reply p (seen t.old) (call (length actions.old) h r)) result }
+// The hart that an operation is of, where its action memory is long enough and it is enabled: H4,
+// then H2.
+#[tactic(auto, using(crate::specs::Meets::short, crate::specs::Meets::off))]
+fn admit(p: &Platform, room: usize, h: u64) -> Result<HartId, Refusal>
+    ensures { Admitted p.now room h result }
 {
-    if actions.len() < ACTION_MEMORY {
-        return Answer::short_memory();
+    if room < ACTION_MEMORY {
+        return Err(Refusal::ShortMemory);
     }
-    if !p.is_enabled(h) {
-        return Answer::not_enabled();
-    }
-    let x = tables::get_hart(t, h as usize);
-    if x.state != STARTED {
-        return Answer::not_started();
-    }
+    p.hart(h).ok_or(Refusal::NotEnabled)
+}
+
+// A call of hart h.
+pub fn call(p: &Platform, t: &mut Rows, actions: &mut [u64], h: u64, r: Registers) -> Answer
+    requires { WellFormed p.now t.old }
+    ensures { Meets t.old t.new actions.old actions.new h
+        (checked_reply p.now (seen t.old) (call (length actions.old) h r)) result }
+{
+    let h = admit(p, actions.len(), h)?;
+    let x = tables::get_hart(t, h);
+    ensure(x.state == STARTED, Refusal::NotStarted)?;
     answer(p, t, actions, h, r)
 }
 
 // A completion of hart h.
-pub fn completion(p: Platform, t: &mut Rows, actions: &[u64], h: u64) -> Answer
-    requires { WellFormed p t.old }
+pub fn completion(p: &Platform, t: &mut Rows, actions: &[u64], h: u64) -> Answer
+    requires { WellFormed p.now t.old }
     ensures { (m : List ℕ) → Meets t.old t.new m m h
-        (checked_reply p (seen t.old) (completion (length actions.now) h)) result }
+        (checked_reply p.now (seen t.old) (completion (length actions.now) h)) result }
 {
-    if actions.len() < ACTION_MEMORY {
-        return Answer::short_memory();
-    }
-    if !p.is_enabled(h) {
-        return Answer::not_enabled();
-    }
+    let h = admit(p, actions.len(), h)?;
     complete(p, t, h)
 }
 
 // A wake of hart h.
-pub fn wake(p: Platform, t: &mut Rows, actions: &mut [u64], h: u64) -> Answer
-    requires { WellFormed p t.old }
+pub fn wake(p: &Platform, t: &mut Rows, actions: &mut [u64], h: u64) -> Answer
+    requires { WellFormed p.now t.old }
     ensures { Meets t.old t.new actions.old actions.new h
-        (checked_reply p (seen t.old) (waking (length actions.old) h)) result }
+        (checked_reply p.now (seen t.old) (waking (length actions.old) h)) result }
 {
-    if actions.len() < ACTION_MEMORY {
-        return Answer::short_memory();
-    }
-    if !p.is_enabled(h) {
-        return Answer::not_enabled();
-    }
+    let h = admit(p, actions.len(), h)?;
     rouse(t, actions, h)
 }
 
 // A reported event of hart h.
-pub fn event(p: Platform, t: &mut Rows, h: u64, code: u64) -> Answer
-    requires { WellFormed p t.old }
+pub fn event(p: &Platform, t: &mut Rows, h: u64, code: u64) -> Answer
+    requires { WellFormed p.now t.old }
     ensures { (m : List ℕ) → Meets t.old t.new m m h
-        (checked_reply p (seen t.old) (event h code)) result }
+        (checked_reply p.now (seen t.old) (event h code)) result }
 {
-    if !p.is_enabled(h) {
-        return Answer::not_enabled();
-    }
-    if code > LAST_REPORTED {
-        return Answer::not_reportable();
-    }
-    tables::count(t, h as usize, code);
-    Answer::success(0, false, 0)
+    let h = p.hart(h).ok_or(Refusal::NotEnabled)?;
+    let code = EventCode::reported(code)?;
+    tables::count(t, h, code);
+    Ok(Success::value(0))
 }

@@ -4,78 +4,70 @@ ghost use Rattle.std.specs.Prelude.{◌≡◌, List, ℕ, ◌*◌, min, length, 
 ghost use Rattle.rules.specs.Platform.{platform_accepted};
 ghost use Rattle.rules.specs.Tables.{well_formed};
 ghost use Rattle.rules.specs.Machine.{call, completion, waking, event, reply, fresh_answer};
+ghost use Rattle.rules.specs.declared.answers.Refusal.TheVariants.{NotWellFormed};
 ghost use Rattle.tables.specs.Keeping.{seen, Shaped, FreshOr};
+ghost use Rattle.dispatch.specs.Checks.{ensured};
 ghost use Rattle.dispatch.specs.Meets.{Meets, count_in};
 
 use crate::checked;
-use rules::answers::{Answer, Registers};
+use crate::checks::ensure;
+use rules::answers::{Answer, Refusal, Registers, Success};
 use rules::numbers::ACTION_WORDS;
 use rules::platform::Platform;
 use tables::Rows;
 
-// H1: whether platform and tables are well formed. It also tells the shape of the rows.
-fn is_well_formed(p: Platform, t: &Rows) -> bool
-    ensures { (result ≡ well_formed p (seen t.now)) × Shaped t.now }
+// H1: "platform or tables not well formed". It also tells the shape of the rows.
+#[tactic(auto, unfolding(rules::specs::Tables::well_formed))]
+fn vouch(p: &Platform, t: &Rows) -> Result<(), Refusal>
+    ensures answer { result ≡ ensured (well_formed p.now (seen t.now)) NotWellFormed }
+    ensures shape { Shaped t.now }
 {
     let well = tables::well_formed(p, t);
-    if p.accepted() {
-        return well;
-    }
-    false
+    ensure(p.accepted() && well, Refusal::NotWellFormed)
 }
 
 // "Fresh": makes the lent rows the tables at power-up, or H1 with the rows as they were.
-pub fn fresh(p: Platform, t: &mut Rows) -> Answer
-    ensures { (result ≡ fresh_answer p)
-        × FreshOr (platform_accepted p) p t.old t.new }
+pub fn fresh(p: &Platform, t: &mut Rows) -> Answer
+    ensures answer { result ≡ fresh_answer p.now }
+    ensures rows { FreshOr (platform_accepted p.now) p.now t.old t.new }
 {
-    if tables::make_fresh(p, t) {
-        return Answer::success(0, false, 0);
-    }
-    Answer::not_well_formed()
+    tables::make_fresh(p, t)?;
+    Ok(Success::value(0))
 }
 
 // A call of hart h with registers r.
-pub fn call(p: Platform, t: &mut Rows, actions: &mut [u64], h: u64, r: Registers) -> Answer
+pub fn call(p: &Platform, t: &mut Rows, actions: &mut [u64], h: u64, r: Registers) -> Answer
     ensures { Meets t.old t.new actions.old actions.new h
-        (reply p (seen t.old) (call (length actions.old) h r)) result }
+        (reply p.now (seen t.old) (call (length actions.old) h r)) result }
 {
-    if !is_well_formed(p, t) {
-        return Answer::not_well_formed();
-    }
+    vouch(p, t)?;
     checked::call(p, t, actions, h, r)
 }
 
 // The completion of hart h's pending state.
-pub fn completion(p: Platform, t: &mut Rows, actions: &[u64], h: u64) -> Answer
+pub fn completion(p: &Platform, t: &mut Rows, actions: &[u64], h: u64) -> Answer
     ensures { (m : List ℕ) → Meets t.old t.new m m h
-        (reply p (seen t.old) (completion (length actions.now) h)) result }
+        (reply p.now (seen t.old) (completion (length actions.now) h)) result }
 {
-    if !is_well_formed(p, t) {
-        return Answer::not_well_formed();
-    }
+    vouch(p, t)?;
     checked::completion(p, t, actions, h)
 }
 
 // A wake of hart h.
-pub fn wake(p: Platform, t: &mut Rows, actions: &mut [u64], h: u64) -> Answer
+pub fn wake(p: &Platform, t: &mut Rows, actions: &mut [u64], h: u64) -> Answer
     ensures { Meets t.old t.new actions.old actions.new h
-        (reply p (seen t.old) (waking (length actions.old) h)) result }
+        (reply p.now (seen t.old) (waking (length actions.old) h)) result }
 {
-    if !is_well_formed(p, t) {
-        return Answer::not_well_formed();
-    }
+    vouch(p, t)?;
     checked::wake(p, t, actions, h)
 }
 
 // A firmware event that the host reports of hart h.
-pub fn event(p: Platform, t: &mut Rows, h: u64, code: u64) -> Answer
+pub fn event(p: &Platform, t: &mut Rows, h: u64, code: u64) -> Answer
     ensures { (m : List ℕ) → Meets t.old t.new m m h
-        (reply p (seen t.old) (event h code)) result }
+        (reply p.now (seen t.old) (event h code)) result }
 {
-    if !is_well_formed(p, t) {
-        return Answer::not_well_formed();
-    }
+    vouch(p, t)?;
     checked::event(p, t, h, code)
 }
 
@@ -84,24 +76,18 @@ fn front_length(a: Answer, room: usize) -> usize
     ensures { result ≡ min (5 * count_in a) room }
 {
     match a {
-        Answer::Pair {
-            error: _,
-            value: _,
-            parked: _,
-            actions,
-        } => {
-            if actions <= (room / ACTION_WORDS) as u64 {
-                return ACTION_WORDS * (actions as usize);
-            }
-            room
-        }
-        Answer::Refused(_) => 0,
+        Ok(done) => done
+            .actions
+            .saturating_mul(ACTION_WORDS as u64)
+            .min(room as u64) as usize,
+        Err(_) => 0,
     }
 }
 
 // "The host gets back the filled front part of its own action memory".
 pub fn front<'a>(actions: &'a mut [u64], a: Answer) -> &'a mut [u64]
-    ensures { (result.now ≡ take (5 * count_in a) actions.old) × (result.ref_ptr ≡ actions.entry.ref_ptr) }
+    ensures words { result.now ≡ take (5 * count_in a) actions.old }
+    ensures place { result.ref_ptr ≡ actions.entry.ref_ptr }
 {
     let n = front_length(a, actions.len());
     &mut actions[..n]

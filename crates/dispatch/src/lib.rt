@@ -1,6 +1,8 @@
 // Calls, completions, wakes and reported events, over the promises of `tables` alone.
 #![tactic(auto)]
 
+mod checks; // a test that an error or a refusal waits for
+mod extensions; // the five extensions
 mod laying; // actions put into lent memory
 mod masks; // a selection, asked of each hart
 mod hsm; // hart states

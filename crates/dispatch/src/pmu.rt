@@ -1,22 +1,23 @@
 // Performance counters: the caller's own eight firmware counters.
-ghost use Rattle.std.specs.Prelude.{◌≡◌, true, List, ℕ, ◌<◌};
-ghost use Rattle.rules.specs.Names.{harts};
-ghost use Rattle.rules.specs.Sets.{all};
+ghost use Rattle.std.specs.Prelude.{◌≡◌, true, List, ℕ};
 ghost use Rattle.rules.specs.Tables.{own_at, tables_well_formed};
 ghost use Rattle.rules.specs.Replies.{view, plain};
-ghost use Rattle.rules.specs.Counters.{counter_set, is_counter, is_event, details_reply};
-ghost use Rattle.rules.specs.Counters.{read_reply};
+ghost use Rattle.rules.specs.Counters.{details_reply, read_reply};
 ghost use Rattle.rules.specs.Counters.{read_high_reply, configure_reply, counter_start_reply};
 ghost use Rattle.rules.specs.Counters.{counter_stop_reply};
 ghost use Rattle.rules.specs.Requests.{counter_request};
 ghost use Rattle.rules.specs.Machine.{plain_reply};
 ghost use Rattle.rules.specs.declared.platform.Platform.{Platform};
-ghost use Rattle.tables.specs.Keeping.{seen, Shaped, set_of, Fine};
+ghost use Rattle.tables.specs.Keeping.{seen, Shaped, Fine};
 ghost use Rattle.dispatch.specs.Meets.{Meets, Keeps};
+ghost use Rattle.dispatch.specs.Sets.{SetGiven, ReadGiven};
 
-use rules::answers::{Answer, Registers};
-use rules::numbers::{COUNTERS, FIRMWARE_COUNTER, FIRST_EVENT, LAST_EVENT};
+use crate::checks::ensure;
+use rules::answers::{Answer, Error, Registers, Success};
+use rules::ids::{CounterId, EventCode, HartId};
+use rules::numbers::{COUNTERS, FIRMWARE_COUNTER};
 use rules::platform::{Platform, bit_of};
+use rules::records::Counter;
 use tables::Rows;
 
 // "flags above bit 7 (-3)" of configure: the first number over its flags.
@@ -28,28 +29,18 @@ const SET_FLAGS: u64 = 4;
 // "bit 1 (-9)" of start and stop.
 const SNAPSHOT_BIT: u64 = 1;
 
-// Whether no number is over 7: "bit i is counter base + i without wrapping; numbers over 7 are -3".
-fn set_fits(base: u64, mask: u64) -> bool
-    ensures { (p : Platform) → result ≡ all is_counter (counter_set p base mask) }
+// The word of a set, "bit i is counter base + i without wrapping; numbers over 7 are -3": bit base +
+// i of it for that counter.
+fn counter_set(base: u64, mask: u64) -> Result<u64, Error>
+    ensures { (p : Platform) → SetGiven p base mask result }
 {
     if mask == 0 {
-        return true;
+        return Ok(0);
     }
-    if base >= COUNTERS {
-        return false;
+    if base < COUNTERS && mask >> (COUNTERS - base) == 0 {
+        return Ok(mask << base);
     }
-    mask >> (COUNTERS - base) == 0
-}
-
-// The word of a set that fits, "bit i is counter base + i", with bit base + i for that counter.
-fn set_word(base: u64, mask: u64) -> u64
-    ensures { (p : Platform) → all is_counter (counter_set p base mask) ≡ true
-        → set_of result ≡ counter_set p base mask }
-{
-    if base >= COUNTERS {
-        return 0;
-    }
-    mask << base
+    Err(Error::InvalidParam)
 }
 
 // "Details: 2^63 for counters 0 to 7, else -3."
@@ -57,158 +48,114 @@ fn details(i: u64) -> Answer
     ensures { (t : List (List ℕ)) (h : ℕ) → Shaped t
         → Keeps t h (plain (view (seen t) h) (details_reply (view (seen t) h).own i)) result }
 {
-    if i >= COUNTERS {
-        return Answer::invalid_param();
-    }
-    Answer::success(FIRMWARE_COUNTER, false, 0)
+    let _ = CounterId::try_from(i)?;
+    Ok(Success::value(FIRMWARE_COUNTER))
 }
 
-// "Read (FID 5): over 7 or unmapped is -3 (house), never a zero."
-fn read(t: &Rows, h: u64, i: u64) -> Answer
-    requires { (h < harts) × Shaped t.now }
-    ensures { Keeps t.now h (plain (view (seen t.now) h)
-        (read_reply (view (seen t.now) h).own i)) result }
+// A counter that is read: "over 7 or unmapped is -3 (house), never a zero".
+fn mapped_counter(t: &Rows, h: HartId, i: u64) -> Result<Counter, Error>
+    ensures { ReadGiven (own_at (seen t.now) h.number) i result }
 {
-    if i >= COUNTERS {
-        return Answer::invalid_param();
-    }
-    let c = tables::get_counter(t, h as usize, i as usize);
-    if !c.mapped {
-        return Answer::invalid_param();
-    }
-    Answer::success(c.value, false, 0)
+    let counter = tables::get_counter(t, h, CounterId::try_from(i)?);
+    ensure(counter.event.is_some(), Error::InvalidParam)?;
+    Ok(counter)
+}
+
+// "Read (FID 5)"
+fn read(t: &Rows, h: HartId, i: u64) -> Answer
+    requires { Shaped t.now }
+    ensures { Keeps t.now h.number (plain (view (seen t.now) h.number)
+        (read_reply (view (seen t.now) h.number).own i)) result }
+{
+    Ok(Success::value(mapped_counter(t, h, i)?.value))
 }
 
 // "High read (FID 6): the same refusals, else 0."
-fn read_high(t: &Rows, h: u64, i: u64) -> Answer
-    requires { (h < harts) × Shaped t.now }
-    ensures { Keeps t.now h (plain (view (seen t.now) h)
-        (read_high_reply (view (seen t.now) h).own i)) result }
+fn read_high(t: &Rows, h: HartId, i: u64) -> Answer
+    requires { Shaped t.now }
+    ensures { Keeps t.now h.number (plain (view (seen t.now) h.number)
+        (read_high_reply (view (seen t.now) h.number).own i)) result }
 {
-    if i >= COUNTERS {
-        return Answer::invalid_param();
-    }
-    let c = tables::get_counter(t, h as usize, i as usize);
-    if !c.mapped {
-        return Answer::invalid_param();
-    }
-    Answer::success(0, false, 0)
+    let _ = mapped_counter(t, h, i)?;
+    Ok(Success::value(0))
 }
 
-// "Events 0xF0000 to 0xF0015 only."
-fn is_event(event: u64) -> bool
-    ensures { result ≡ is_event event }
-{
-    if event < FIRST_EVENT {
-        return false;
-    }
-    event <= LAST_EVENT
-}
-
-// "Configure: flags above bit 7 (-3), counters (-3), event (-2), event data (-3), match (-2)."
+// "Configure: flags above bit 7 (-3), counters (-3), event (-2), event data (-3), match (-2)." "The
+// value returned is the counter."
 fn configure(
     t: &mut Rows,
-    h: u64,
+    h: HartId,
     base: u64,
     mask: u64,
     flags: u64,
     event: u64,
     datum: u64,
 ) -> Answer
-    requires { (h < harts) × Shaped t.old }
-    ensures { (p : Platform) (m : List ℕ) → Meets t.old t.new m m h
-        (plain (view (seen t.old) h)
-        (configure_reply p (view (seen t.old) h).own base mask flags event datum)) result }
+    requires { Shaped t.old }
+    ensures { (p : Platform) (m : List ℕ) → Meets t.old t.new m m h.number
+        (plain (view (seen t.old) h.number)
+        (configure_reply p (view (seen t.old) h.number).own base mask flags event datum)) result }
 {
-    if flags >= CONFIGURE_FLAGS {
-        return Answer::invalid_param();
-    }
-    if !set_fits(base, mask) {
-        return Answer::invalid_param();
-    }
-    if !is_event(event) {
-        return Answer::not_supported();
-    }
-    if datum != 0 {
-        return Answer::invalid_param();
-    }
-    let i = tables::match_counter(t, h as usize, set_word(base, mask), flags);
-    if i >= COUNTERS {
-        return Answer::not_supported();
-    }
-    tables::configure(t, h as usize, i as usize, flags, event - FIRST_EVENT);
-    Answer::success(i, false, 0)
+    ensure(flags < CONFIGURE_FLAGS, Error::InvalidParam)?;
+    let set = counter_set(base, mask)?;
+    let code = EventCode::of_event(event)?;
+    ensure(datum == 0, Error::InvalidParam)?;
+    let i = tables::match_counter(t, h, set, flags).ok_or(Error::NotSupported)?;
+    tables::configure(t, h, i, flags, code);
+    Ok(Success::value(i.number))
 }
 
 // "Start: flags above bit 1 (-3), counters (-3), an unmapped counter (-3, house), bit 1 (-9), any
 // running (-7). All or none (house)."
-fn start_counters(t: &mut Rows, h: u64, base: u64, mask: u64, flags: u64, initial: u64) -> Answer
-    requires { (h < harts) × (Shaped t.old × Fine (own_at (seen t.old) h)) }
-    ensures { (p : Platform) (m : List ℕ) → Meets t.old t.new m m h
-        (plain (view (seen t.old) h)
-        (counter_start_reply p (view (seen t.old) h).own base mask flags initial)) result }
+fn start_counters(t: &mut Rows, h: HartId, base: u64, mask: u64, flags: u64, initial: u64) -> Answer
+    requires shaped { Shaped t.old }
+    requires fine { Fine (own_at (seen t.old) h.number) }
+    ensures { (p : Platform) (m : List ℕ) → Meets t.old t.new m m h.number
+        (plain (view (seen t.old) h.number)
+        (counter_start_reply p (view (seen t.old) h.number).own base mask flags initial)) result }
 {
-    if flags >= SET_FLAGS {
-        return Answer::invalid_param();
-    }
-    if !set_fits(base, mask) {
-        return Answer::invalid_param();
-    }
-    let s = set_word(base, mask);
-    if !tables::all_mapped(t, h as usize, s) {
-        return Answer::invalid_param();
-    }
-    if bit_of(flags, SNAPSHOT_BIT) {
-        return Answer::no_shared_memory();
-    }
-    if !tables::none_running(t, h as usize, s) {
-        return Answer::already_started();
-    }
-    tables::start_set(t, h as usize, s, flags, initial);
-    Answer::success(0, false, 0)
+    ensure(flags < SET_FLAGS, Error::InvalidParam)?;
+    let set = counter_set(base, mask)?;
+    ensure(tables::all_mapped(t, h, set), Error::InvalidParam)?;
+    ensure(!bit_of(flags, SNAPSHOT_BIT), Error::NoSharedMemory)?;
+    ensure(tables::none_running(t, h, set), Error::AlreadyStarted)?;
+    tables::start_set(t, h, set, flags, initial);
+    Ok(Success::value(0))
 }
 
 // "Stop: flags above bit 1 (-3), counters (-3), bit 1 (-9), any not running (-8). All or none."
-fn stop_counters(t: &mut Rows, h: u64, base: u64, mask: u64, flags: u64) -> Answer
-    requires { (h < harts) × (Shaped t.old × Fine (own_at (seen t.old) h)) }
-    ensures { (p : Platform) (m : List ℕ) → Meets t.old t.new m m h
-        (plain (view (seen t.old) h)
-        (counter_stop_reply p (view (seen t.old) h).own base mask flags)) result }
+fn stop_counters(t: &mut Rows, h: HartId, base: u64, mask: u64, flags: u64) -> Answer
+    requires shaped { Shaped t.old }
+    requires fine { Fine (own_at (seen t.old) h.number) }
+    ensures { (p : Platform) (m : List ℕ) → Meets t.old t.new m m h.number
+        (plain (view (seen t.old) h.number)
+        (counter_stop_reply p (view (seen t.old) h.number).own base mask flags)) result }
 {
-    if flags >= SET_FLAGS {
-        return Answer::invalid_param();
-    }
-    if !set_fits(base, mask) {
-        return Answer::invalid_param();
-    }
-    if bit_of(flags, SNAPSHOT_BIT) {
-        return Answer::no_shared_memory();
-    }
-    let s = set_word(base, mask);
-    if !tables::all_running(t, h as usize, s) {
-        return Answer::already_stopped();
-    }
-    tables::stop_set(t, h as usize, s, flags);
-    Answer::success(0, false, 0)
+    ensure(flags < SET_FLAGS, Error::InvalidParam)?;
+    let set = counter_set(base, mask)?;
+    ensure(!bit_of(flags, SNAPSHOT_BIT), Error::NoSharedMemory)?;
+    ensure(tables::all_running(t, h, set), Error::AlreadyStopped)?;
+    tables::stop_set(t, h, set, flags);
+    Ok(Success::value(0))
 }
 
 // What PMU function a6 answers: "Any other EID or FID, compared over all 64 bits of a7 and a6
 // (house), answers -2", and functions 7 and 8 too.
-pub fn pmu(p: Platform, t: &mut Rows, h: u64, r: Registers) -> Answer
-    requires { (h < harts) × (Shaped t.old × (tables_well_formed p (seen t.old) ≡ true)) }
-    ensures { (m : List ℕ) → Meets t.old t.new m m h
-        (plain (view (seen t.old) h)
-        (plain_reply p (view (seen t.old) h) (counter_request r))) result }
+pub fn pmu(p: &Platform, t: &mut Rows, h: HartId, r: Registers) -> Answer
+    requires shaped { Shaped t.old }
+    requires fine { tables_well_formed p.now (seen t.old) ≡ true }
+    ensures { (m : List ℕ) → Meets t.old t.new m m h.number
+        (plain (view (seen t.old) h.number)
+        (plain_reply p.now (view (seen t.old) h.number) (counter_request r))) result }
 {
-    let fid = r.a6;
-    match fid {
-        0 => Answer::success(COUNTERS, false, 0),
+    match r.a6 {
+        0 => Ok(Success::value(COUNTERS)),
         1 => details(r.a0),
         2 => configure(t, h, r.a0, r.a1, r.a2, r.a3, r.a4),
         3 => start_counters(t, h, r.a0, r.a1, r.a2, r.a3),
         4 => stop_counters(t, h, r.a0, r.a1, r.a2),
         5 => read(t, h, r.a0),
         6 => read_high(t, h, r.a0),
-        _ => Answer::not_supported(),
+        _ => Err(Error::NotSupported.into()),
     }
 }

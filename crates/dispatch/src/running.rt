@@ -1,85 +1,68 @@
 // What is left once H1, H4 and H2 are tested: the call of a running hart, done and wake.
-ghost use Rattle.std.specs.Prelude.{◌≡◌, true, List, ℕ, ◌<◌, ◌≤◌, length};
-ghost use Rattle.rules.specs.Names.{harts, action_memory};
+ghost use Rattle.std.specs.Prelude.{◌≡◌, true, List, ℕ, ◌≤◌, length};
+ghost use Rattle.rules.specs.Names.{action_memory};
 ghost use Rattle.rules.specs.Tables.{tables_well_formed};
 ghost use Rattle.rules.specs.Replies.{view};
 ghost use Rattle.rules.specs.Harts.{done_reply, wake_reply};
 ghost use Rattle.rules.specs.Requests.{request};
-ghost use Rattle.rules.specs.Machine.{request_reply, call};
+ghost use Rattle.rules.specs.Machine.{request_reply};
 ghost use Rattle.tables.specs.Keeping.{seen, Shaped};
 ghost use Rattle.dispatch.specs.Meets.{Meets, Ready};
 
 use crate::base::base;
+use crate::extensions::Extension;
 use crate::fences::{ipi, rfence};
 use crate::hsm::hsm;
 use crate::laying::put_action;
 use crate::pmu::pmu;
 use rules::actions::Action;
-use rules::answers::{Answer, Registers};
-use rules::numbers::{BASE, HSM, IPI, PMU, RFENCE};
+use rules::answers::{Answer, Refusal, Registers, Success};
+use rules::ids::HartId;
 use rules::platform::Platform;
-use rules::records::Next;
 use tables::Rows;
 
 // The call of the running hart h, by its extension.
-pub fn answer(p: Platform, t: &mut Rows, actions: &mut [u64], h: u64, r: Registers) -> Answer
-    requires { Ready p t.old actions.old h }
-    ensures { Meets t.old t.new actions.old actions.new h
-        (request_reply p (view (seen t.old) h) h (request r)) result }
+pub fn answer(p: &Platform, t: &mut Rows, actions: &mut [u64], h: HartId, r: Registers) -> Answer
+    requires { Ready p.now t.old actions.old h.number }
+    ensures { Meets t.old t.new actions.old actions.new h.number
+        (request_reply p.now (view (seen t.old) h.number) h.number (request r)) result }
 {
-    let eid = r.a7;
-    if eid == BASE {
-        return base(p, r);
+    match Extension::try_from(r.a7)? {
+        Extension::Base => base(p, r),
+        Extension::Ipi => ipi(p, t, actions, h, r),
+        Extension::Rfence => rfence(p, t, actions, h, r),
+        Extension::Hsm => hsm(p, t, actions, h, r),
+        Extension::Pmu => pmu(p, t, h, r),
     }
-    if eid == IPI {
-        return ipi(p, t, actions, h, r);
-    }
-    if eid == RFENCE {
-        return rfence(p, t, actions, h, r);
-    }
-    if eid == HSM {
-        return hsm(p, t, actions, h, r);
-    }
-    if eid == PMU {
-        return pmu(p, t, h, r);
-    }
-    Answer::not_supported()
 }
 
 // Done: "the one hart's record is handed on by reference and altered there", once H5 is tested.
-pub fn complete(p: Platform, t: &mut Rows, h: u64) -> Answer
-    requires { (h < harts) × ((tables_well_formed p (seen t.old) ≡ true) × Shaped t.old) }
-    ensures { (m : List ℕ) → Meets t.old t.new m m h (done_reply (view (seen t.old) h) h) result }
+pub fn complete(p: &Platform, t: &mut Rows, h: HartId) -> Answer
+    requires fine { tables_well_formed p.now (seen t.old) ≡ true }
+    requires shaped { Shaped t.old }
+    ensures { (m : List ℕ) → Meets t.old t.new m m h.number
+        (done_reply (view (seen t.old) h.number) h.number) result }
 {
-    let x = tables::get_hart(t, h as usize);
-    let next = x.done();
-    match next {
-        Next::To(_) => {
-            tables::complete(t, h as usize);
-            Answer::success(0, false, 0)
-        }
-        Next::Forbidden => Answer::state_forbids(),
-    }
+    let x = tables::get_hart(t, h);
+    let _ = x.done().ok_or(Refusal::StateForbids)?;
+    tables::complete(t, h);
+    Ok(Success::value(0))
 }
 
 // Wake: "a wake from non-retentive sleep gives one [action] for that hart with its stored address
 // and opaque".
-pub fn rouse(t: &mut Rows, actions: &mut [u64], h: u64) -> Answer
-    requires { (h < harts) × (Shaped t.old × (action_memory ≤ length actions.old)) }
-    ensures { Meets t.old t.new actions.old actions.new h
-        (wake_reply (view (seen t.old) h) h) result }
+pub fn rouse(t: &mut Rows, actions: &mut [u64], h: HartId) -> Answer
+    requires shaped { Shaped t.old }
+    requires room { action_memory ≤ length actions.old }
+    ensures { Meets t.old t.new actions.old actions.new h.number
+        (wake_reply (view (seen t.old) h.number) h.number) result }
 {
-    let x = tables::get_hart(t, h as usize);
-    let next = x.wake();
-    match next {
-        Next::To(y) => {
-            tables::put_hart(t, h as usize, y);
-            if x.retentive {
-                return Answer::success(0, false, 0);
-            }
-            put_action(actions, 0, Action::enter(h, x.address, x.opaque));
-            Answer::success(0, false, 1)
-        }
-        Next::Forbidden => Answer::state_forbids(),
+    let x = tables::get_hart(t, h);
+    let next = x.wake().ok_or(Refusal::StateForbids)?;
+    tables::put_hart(t, h, next);
+    if x.retentive {
+        return Ok(Success::actions(0));
     }
+    put_action(actions, 0, Action::enter(h.number, x.address, x.opaque));
+    Ok(Success::actions(1))
 }

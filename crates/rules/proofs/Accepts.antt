@@ -20,8 +20,8 @@ use Rattle.rules.specs.Lives.{Event, start, done, wake}
 use Rattle.rules.specs.Rows.{◌does◌, life_event, request_event, event_of, passes, ready}
 use Rattle.rules.specs.declared.platform.Platform.{Platform}
 use Rattle.rules.specs.declared.records.Hart.{Hart}
-use Rattle.rules.specs.declared.records.Next.{Next}
-use Rattle.rules.specs.declared.records.Next.TheVariants.{To}
+use Rattle.std.specs.Prelude.{Option}
+use Rattle.std.specs.Prelude.{Some}
 use Rattle.rules.specs.declared.actions.Action.{Action}
 use Rattle.rules.proofs.Logic.{if-false, if-both, by_cases, below_or, and_l, and_r, or_right, not-of}
 use Rattle.rules.proofs.Readings.{Place, name, Goes, g-start, g-started, g-suspended, g-wake, g-woken}
@@ -61,8 +61,8 @@ life-accepts p v h (hart_suspend y a o) ok g =
     (pass _ (not-of (and_r (eqb y non_retentive_type) _ w)) (moves-accepted v _ _ _)))
 
 -- an outcome that allows the event
-data Allowed : Next → Type 0 where
-  allowed : {x : Hart} → Allowed (To x)
+data Allowed : Option Hart → Type 0 where
+  allowed : {x : Hart} → Allowed (Some x)
 
 done-goes : {a b : Place} (x : Hart) → Goes a done b → Stands a x → Allowed (done_of x)
 unfolding done_of when◌then◌else◌
@@ -78,7 +78,7 @@ wake-goes x g-wake q = rw q.state allowed
 start-goes : {a b : Place} → Goes a start b → name a ≡ STOPPED
 start-goes g-start = refl
 
-goes_on-accepts : (v : View) (h : ℕ) (acts : List Action) {n : Next} → Allowed n → Accepted (goes_on v h acts n)
+goes_on-accepts : (v : View) (h : ℕ) (acts : List Action) {n : Option Hart} → Allowed n → Accepted (goes_on v h acts n)
 unfolding goes_on
 goes_on-accepts v h acts allowed = moves-accepted v _ _ _
 

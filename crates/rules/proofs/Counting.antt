@@ -1,6 +1,6 @@
 -- What events do to the counters: the one that the host reports, and those of interrupts and fences.
 use mathlib.Core.Path.{◌≡◌, refl, ap, sym, ◌∙◌}
-use mathlib.Core.Bool.{Bool}
+use mathlib.Core.Bool.{Bool, true}
 use mathlib.Core.List.{List, [], ◌∷◌, map}
 use Prim.Native.Nat.{ℕ, ◌+◌}
 use lib.Dec.{eqb}
@@ -9,23 +9,29 @@ use lib.Seq.{get_or-set_same, get_or-set_other, set_out}
 use borrow.Author.Tests.{eqb-true, eqb-false, eq-eqb, ne_eqb}
 use Rattle.rules.specs.Choice.{when◌then◌else◌}
 use Rattle.rules.specs.Tables.{counter_at}
-use Rattle.rules.specs.Replies.{counted, count_at, tell_one, tell}
+use Rattle.std.specs.Prelude.{Option, Some, None}
+use Rattle.std.proofs.lemmas.Option.{none-some}
+use Rattle.rules.specs.Replies.{is_mapped_to, counted, count_at, tell_one, tell}
 use Rattle.rules.specs.Events.{times, others, occurs}
 use Rattle.rules.specs.Counting.{EventsAddOne}
 use Rattle.rules.specs.declared.records.Counter.{Counter}
-use Rattle.rules.proofs.Logic.{if-true, if-false, by_cases, below_or, clash, false-if, and_l, and_r, and-of}
+use Rattle.rules.proofs.Logic.{if-true, if-false, by_cases, below_or, false-if, false-true, and_r, and-of}
 use Rattle.rules.proofs.Logic.{same_test}
 use Rattle.rules.proofs.Own.{counted-at}
 
 -- ----- one event on one counter
 
+mapped-to : (e : ℕ) (o : Option ℕ) → is_mapped_to e o ≡ true → o ≡ Some e
+mapped-to e None y = absurd (false-true y)
+mapped-to e (Some k) y = ap Some (eqb-true k e y)
+
 pub events-add-one : EventsAddOne
 unfolding counted
 events-add-one e c = record {
-  adds = λ r m q. if-true _ _ (and-of r (and-of m (eq-eqb _ _ q)));
+  adds = λ r m. if-true _ _ (and-of r (rw m (eq-eqb e e refl)));
   stopped = λ r. if-false _ _ (rw r refl);
-  unmapped = λ m. if-false _ _ (false-if _ (λ y. clash (and_l c.mapped _ (and_r c.running _ y)) m));
-  elsewhere = λ n. if-false _ _ (false-if _ (λ y. n (eqb-true _ _ (and_r c.mapped _ (and_r c.running _ y)))));
+  unmapped = λ m. if-false _ _ (false-if _ (λ y. none-some e (sym m ∙ mapped-to e c.event (and_r c.running _ y))));
+  elsewhere = λ n. if-false _ _ (false-if _ (λ y. n (mapped-to e c.event (and_r c.running _ y))));
 }
 
 -- ----- one event in one hart

@@ -1,11 +1,11 @@
 -- What each request does besides its tables: the actions it gives, whom it tells, whether it parks its caller.
 use mathlib.Core.List.{map, List, [], ◌∷◌}
-use mathlib.Core.Option.{Option, none, some}
 use mathlib.Core.Bool.{Bool, false, true}
 use mathlib.Core.Path.{◌≡◌, refl, subst}
 use Prim.Native.Nat.{◌≤◌, zero-le, ℕ}
 use native.Mathlib.Omega.{arith}
-use lib.IntN.{ℤ}
+use Rattle.rules.specs.declared.answers.Error.{Error}
+use Rattle.rules.specs.declared.answers.Refusal.{Refusal}
 use lib.ListN.{length, length-map}
 use borrow.Author.Tests.{not-false}
 use Rattle.rules.specs.Names.{harts}
@@ -26,9 +26,9 @@ use Rattle.rules.specs.Choice.{when◌then◌else◌}
 use Rattle.rules.specs.declared.platform.Platform.{Platform}
 use Rattle.rules.specs.declared.records.Hart.{Hart}
 use Rattle.rules.specs.declared.records.Counter.{Counter}
-use Rattle.rules.specs.declared.records.Next.{Next}
+use Rattle.std.specs.Prelude.{Option}
 use Rattle.rules.specs.declared.actions.Action.{Action}
-use Rattle.rules.specs.declared.records.Next.TheVariants.{Forbidden, To}
+use Rattle.std.specs.Prelude.{None, Some}
 use Rattle.rules.proofs.ReachWays.{reached-by-hart}
 use Rattle.rules.proofs.Logic.{clash, if-both}
 use Rattle.rules.proofs.SetLaws.{those-few}
@@ -57,7 +57,7 @@ sends_on unknown = false
 -- ----- calls that alter no hart record: only those that send have actions, and at most one a hart
 
 pub data PlainDeed (sending : Bool) : Plain → Type 0 where
-  p-fails : {e : ℤ} → PlainDeed sending (fails e)
+  p-fails : {e : Error} → PlainDeed sending (fails e)
   p-gives : {n : ℕ} {cs : List Counter} → PlainDeed sending (gives n cs)
   p-sends : {acts : List Action} {c : ℕ} {ks : List ℕ} → sending ≡ true → length acts ≤ harts
       → PlainDeed sending (sends acts c ks)
@@ -81,8 +81,8 @@ send-deed p hs m base k s n i c f =
 
 chosen-deed : (flags e : ℕ) (cs : List Counter) (o : Option ℕ) → PlainDeed false (configure_chosen flags e cs o)
 unfolding configure_chosen
-chosen-deed flags e cs none = p-fails
-chosen-deed flags e cs (some i) = p-gives
+chosen-deed flags e cs None = p-fails
+chosen-deed flags e cs (Some i) = p-gives
 
 pub plain-deed : (p : Platform) (v : View) (q : PlainRequest) → PlainDeed (sends_on q) (plain_reply p v q)
 unfolding plain_reply interrupt_reply fence_reply status_reply details_reply configure_reply counter_start_reply counter_stop_reply read_reply read_high_reply
@@ -116,13 +116,13 @@ plain-deed p v unknown = p-fails
 -- ----- every reply: at most one action a hart; and one that tells nobody
 
 pub data Few : Reply → Type 0 where
-  few-refused : {k : ℕ} → Few (refused k)
-  few-failed : {e : ℤ} → Few (failed e)
+  few-refused : {k : Refusal} → Few (refused k)
+  few-failed : {e : Error} → Few (failed e)
   few-did : {d : Done} → length d.actions ≤ harts → Few (did d)
 
 pub data Quiet (acts : List Action) (parked : Bool) : Reply → Type 0 where
-  q-refused : {k : ℕ} → Quiet acts parked (refused k)
-  q-failed : {e : ℤ} → Quiet acts parked (failed e)
+  q-refused : {k : Refusal} → Quiet acts parked (refused k)
+  q-failed : {e : Error} → Quiet acts parked (failed e)
   q-did : {d : Done} → d.actions ≡ acts → d.told ≡ [] → d.parked ≡ parked → Quiet acts parked (did d)
 
 pub quiet-did : {acts : List Action} {parked : Bool} {r : Reply} → Quiet acts parked r → (d : Done) → r ≡ did d
@@ -191,7 +191,7 @@ life-few (hart_start k a o) = omega arith
 life-few hart_stop = omega arith
 life-few (hart_suspend y a o) = omega arith
 
-pub goes_on-quiet : (v : View) (h : ℕ) (acts : List Action) (n : Next) → Quiet acts false (goes_on v h acts n)
+pub goes_on-quiet : (v : View) (h : ℕ) (acts : List Action) (n : Option Hart) → Quiet acts false (goes_on v h acts n)
 unfolding goes_on
-goes_on-quiet v h acts (To x) = moves-quiet v _ _ _
-goes_on-quiet v h acts Forbidden = q-refused
+goes_on-quiet v h acts (Some x) = moves-quiet v _ _ _
+goes_on-quiet v h acts None = q-refused

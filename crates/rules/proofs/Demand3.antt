@@ -6,7 +6,7 @@ use Prim.Native.Nat.{ℕ}
 use lib.Dec.{leb, eqb}
 use borrow.Author.Tests.{eqb-true, eq-eqb, le-ltb, leb-true}
 use Rattle.rules.specs.Choice.{when◌then◌else◌}
-use Rattle.rules.specs.Names.{STARTED, STOPPED, HSM, action_memory, success}
+use Rattle.rules.specs.Names.{STARTED, STOPPED, HSM, action_memory}
 use Rattle.rules.specs.Platform.{enabled, platform_accepted}
 use Rattle.rules.specs.Tables.{Tables, state_of, fresh, TablesWellFormed}
 use Rattle.rules.specs.Replies.{view, accepted, plain, answer_of}
@@ -18,7 +18,8 @@ use Rattle.rules.specs.Rows.{◌does◌, event_of, adds, prior, tables_now, row_
 use Rattle.rules.specs.Promises.{LivesHold}
 use Rattle.rules.specs.declared.platform.Platform.{Platform}
 use Rattle.rules.specs.declared.answers.Registers.{Registers}
-use Rattle.rules.specs.declared.answers.Answer.TheVariants.{Pair}
+use Rattle.rules.specs.Answers.{done}
+use Rattle.std.specs.Prelude.{Ok}
 use Rattle.rules.proofs.Logic.{false-if, and_l, and_r}
 use Rattle.rules.proofs.WellFormed.{platform-agrees, tables_agree}
 use Rattle.rules.proofs.Readings.{run-read, read-run, run-one, run-last, run-next}
@@ -79,14 +80,14 @@ status-checked p t room k q w asked r =
     ∙ ap (request_reply p (view t k) k) asked
 
 status-shown : (p : Platform) (t : Tables) (h k : ℕ) → enabled p h ≡ true
-    → answer_of (plain (view t k) (status_reply p (view t k) h)) ≡ Pair success (state_of t.harts h) false 0
+    → answer_of (plain (view t k) (status_reply p (view t k) h)) ≡ Ok (done (state_of t.harts h) false 0)
 unfolding plain answer_of view
 status-shown p t h k on = rw (status-given p (view t k) h on) refl
 
 status-call : (p : Platform) (t : Tables) (h room k : ℕ) (q : Registers) → platform_accepted p ≡ true
     → TablesWellFormed p t → enabled p h ≡ true
     → q.a7 ≡ HSM → q.a6 ≡ 2 → q.a0 ≡ h → ready p t (call room k q) ≡ true
-    → answer_of (reply p t (call room k q)) ≡ Pair success (state_of t.harts h) false 0
+    → answer_of (reply p t (call room k q)) ≡ Ok (done (state_of t.harts h) false 0)
 status-call p t h room k q ok w on a7 a6 a0 r =
     ap answer_of
     (reply-checked p t (call room k q) ok ((tables_agree p t).1 w)
@@ -100,7 +101,7 @@ lives-hold p ok ops h on = record {
   status = statuses p ok ops h;
   reported = λ r room k q a7 a6 a0 w.
       status-call p (tables_now p ops) h room k q ok (fine p ok ops) on a7 a6 a0 w
-      ∙ ap (λ (s : ℕ). Pair success s false 0) (statuses p ok ops h r);
+      ∙ ap (λ (s : ℕ). Ok (done s false 0)) (statuses p ok ops h r);
   accepts = λ e op ev w fit. complete p ok ops h e op on ev w fit;
   refuses = λ e op ev no-fit. false-if (accepted (reply p (tables_now p ops) op))
       (λ y. no-fit (sound p ok ops h e op ev y));

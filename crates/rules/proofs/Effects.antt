@@ -5,7 +5,8 @@ use mathlib.Core.List.{List, [], ◌∷◌}
 use Prim.Native.Nat.{ℕ}
 use native.Mathlib.Omega.{arith}
 use lib.ListN.{set}
-use lib.IntN.{ℤ}
+use Rattle.rules.specs.declared.answers.Error.{Error}
+use Rattle.rules.specs.declared.answers.Refusal.{Refusal}
 use borrow.Author.Tests.{eqb-true, not-false}
 use Rattle.rules.specs.Choice.{when◌then◌else◌}
 use Rattle.rules.specs.Names.{STARTED}
@@ -23,8 +24,8 @@ use Rattle.rules.specs.Lives.{Event, suspend, done, wake}
 use Rattle.rules.specs.Rows.{InRow, ◌does◌, life_event, request_event, event_of}
 use Rattle.rules.specs.declared.platform.Platform.{Platform}
 use Rattle.rules.specs.declared.records.Hart.{Hart}
-use Rattle.rules.specs.declared.records.Next.{Next}
-use Rattle.rules.specs.declared.records.Next.TheVariants.{To, Forbidden}
+use Rattle.std.specs.Prelude.{Option}
+use Rattle.std.specs.Prelude.{Some, None}
 use Rattle.rules.specs.declared.actions.Action.{Action}
 use Rattle.rules.proofs.Logic.{if-both}
 use Rattle.rules.proofs.Readings.{Place, off, starting, up, falling, asleep, waking as rising, stopping, name}
@@ -46,8 +47,8 @@ pub data Effect (p : Platform) (hs : List Hart) : List InRow → List Hart → T
 
 -- a reply whose effect on the records hs is that of the events es
 pub data Lawful (p : Platform) (hs : List Hart) (es : List InRow) : Reply → Type 0 where
-  l-refused : {k : ℕ} → Lawful p hs es (refused k)
-  l-failed : {e : ℤ} → Lawful p hs es (failed e)
+  l-refused : {k : Refusal} → Lawful p hs es (refused k)
+  l-failed : {e : Error} → Lawful p hs es (failed e)
   l-did : {d : Done} → Effect p hs es d.harts → Lawful p hs es (did d)
 
 -- an event leads from the one place that a state names
@@ -98,10 +99,10 @@ request-lawful p v h on s (other q) = plain-lawful v (plain_reply p v q)
 -- ----- completions and wakes
 
 -- what is not allowed leads nowhere
-never : {x : Hart} → Forbidden ≡ To x → ⊥
+never : {x : Hart} → None ≡ Some x → ⊥
 never e = let z : ◌≡◌ {A = ℕ} 0 1 = cc in omega arith
 
-done-leads : (x y : Hart) → done_of x ≡ To y → Leads done x y
+done-leads : (x y : Hart) → done_of x ≡ Some y → Leads done x y
 unfolding done_of when◌then◌else◌
 done-leads x y e off q = absurd (never (rw q.state at e))
 done-leads x y e starting q = let i = rw q.state at e in (up, g-started, record { state = cc })
@@ -111,7 +112,7 @@ done-leads x y e asleep q = absurd (never (rw q.state at e))
 done-leads x y e rising q = let i = rw q.state at e in (up, g-woken, record { state = cc })
 done-leads x y e stopping q = let i = rw q.state at e in (off, g-stopped, record { state = cc })
 
-wake-leads : (x y : Hart) → wake_of x ≡ To y → Leads wake x y
+wake-leads : (x y : Hart) → wake_of x ≡ Some y → Leads wake x y
 unfolding wake_of when◌then◌else◌
 wake-leads x y e off q = absurd (never (rw q.state at e))
 wake-leads x y e starting q = absurd (never (rw q.state at e))
@@ -121,12 +122,12 @@ wake-leads x y e asleep q = let i = rw q.state at e in (rising, g-wake, record {
 wake-leads x y e rising q = absurd (never (rw q.state at e))
 wake-leads x y e stopping q = absurd (never (rw q.state at e))
 
-goes_on-lawful : {p : Platform} (v : View) (acts : List Action) {h : ℕ} {e : Event} → enabled p h ≡ true → (n : Next)
-    → ((x : Hart) → n ≡ To x → Leads e (hart_at v.harts h) x)
+goes_on-lawful : {p : Platform} (v : View) (acts : List Action) {h : ℕ} {e : Event} → enabled p h ≡ true → (n : Option Hart)
+    → ((x : Hart) → n ≡ Some x → Leads e (hart_at v.harts h) x)
     → Lawful p v.harts (h does e ∷ []) (goes_on v h acts n)
 unfolding goes_on
-goes_on-lawful v acts on (To x) f = moves-lawful v false acts (moved _ on (f x refl))
-goes_on-lawful v acts on Forbidden f = l-refused
+goes_on-lawful v acts on (Some x) f = moves-lawful v false acts (moved _ on (f x refl))
+goes_on-lawful v acts on None f = l-refused
 
 -- ----- every operation
 

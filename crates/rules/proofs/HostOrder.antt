@@ -3,7 +3,6 @@ use mathlib.Core.Path.{ap, ◌≡◌, ◌∙◌}
 use mathlib.Core.Bool.{false, not, true}
 use Rattle.rules.specs.Platform.{enabled}
 use Rattle.rules.specs.Replies.{refused, view}
-use Rattle.rules.specs.Names.{not_well_formed}
 use Rattle.rules.specs.Tables.{Tables, well_formed}
 use Rattle.rules.specs.Machine.{checked_reply, enabled_reply, Operation, call, completion, waking, event, hart_of}
 use Rattle.rules.specs.Machine.{is_short, reply}
@@ -14,10 +13,11 @@ use Rattle.rules.proofs.Logic.{if-false, if-true}
 use Rattle.rules.proofs.HostWays.{call-not-started, checked-enabled, checked-not-enabled, checked-short}
 use Rattle.rules.proofs.HostWays.{completion-reply, event-reply, waking-reply}
 use Rattle.rules.proofs.HartWays.{done-forbidden, wake-forbidden}
+use Rattle.rules.specs.declared.answers.Refusal.TheVariants.{NotWellFormed}
 
 module _ (p : Platform) (t : Tables) (op : Operation) where
   -- H1
-  pub reply-ill : well_formed p t ≡ false → reply p t op ≡ refused not_well_formed
+  pub reply-ill : well_formed p t ≡ false → reply p t op ≡ refused NotWellFormed
   unfolding reply
   reply-ill w = if-true _ _ (ap not w)
 

@@ -3,7 +3,7 @@ use mathlib.Core.Path.{◌≡◌, refl, ap, ◌∙◌}
 use mathlib.Core.Bool.{true, false, not}
 use Prim.Native.Nat.{ℕ}
 use borrow.Author.Tests.{eq-eqb, ne_eqb}
-use Rattle.rules.specs.Names.{STARTED, not_well_formed, not_enabled, not_started, short_memory}
+use Rattle.rules.specs.Names.{STARTED}
 use Rattle.rules.specs.Platform.{enabled, platform_accepted}
 use Rattle.rules.specs.Tables.{Tables, state_of, tables_well_formed, well_formed}
 use Rattle.rules.specs.Replies.{view, refused}
@@ -15,12 +15,14 @@ use Rattle.rules.specs.Machine.{enabled_reply, checked_reply, reply}
 use Rattle.rules.specs.declared.platform.Platform.{Platform}
 use Rattle.rules.specs.declared.answers.Registers.{Registers}
 use Rattle.rules.proofs.Logic.{if-true, if-false, and-of, not-of}
+use Rattle.rules.specs.declared.answers.Refusal.TheVariants.{NotWellFormed, NotEnabled, NotStarted}
+use Rattle.rules.specs.declared.answers.Refusal.TheVariants.{ShortMemory}
 
 module _ (p : Platform) (t : Tables) where
   module _ (op : Operation) where
     -- ----- H1
 
-    pub reply-ill : well_formed p t ≡ false → reply p t op ≡ refused not_well_formed
+    pub reply-ill : well_formed p t ≡ false → reply p t op ≡ refused NotWellFormed
     unfolding reply
     reply-ill e = if-true _ _ (ap not e)
 
@@ -28,12 +30,12 @@ module _ (p : Platform) (t : Tables) where
     unfolding reply
     reply-well e = if-false _ _ (ap not e)
 
-    pub reply-no-platform : platform_accepted p ≡ false → reply p t op ≡ refused not_well_formed
+    pub reply-no-platform : platform_accepted p ≡ false → reply p t op ≡ refused NotWellFormed
     unfolding reply well_formed
     reply-no-platform e = if-true _ _ (rw e refl)
 
     module _ (ok : platform_accepted p ≡ true) where
-      pub reply-no-tables : tables_well_formed p t ≡ false → reply p t op ≡ refused not_well_formed
+      pub reply-no-tables : tables_well_formed p t ≡ false → reply p t op ≡ refused NotWellFormed
       unfolding reply well_formed
       reply-no-tables e = if-true _ _ (rw (ok, e) refl)
 
@@ -43,12 +45,12 @@ module _ (p : Platform) (t : Tables) where
 
     -- ----- H4, H2
 
-    pub checked-short : is_short op ≡ true → checked_reply p t op ≡ refused short_memory
+    pub checked-short : is_short op ≡ true → checked_reply p t op ≡ refused ShortMemory
     unfolding checked_reply
     checked-short e = if-true _ _ e
 
     module _ (long : is_short op ≡ false) where
-      pub checked-not-enabled : enabled p (hart_of op) ≡ false → checked_reply p t op ≡ refused not_enabled
+      pub checked-not-enabled : enabled p (hart_of op) ≡ false → checked_reply p t op ≡ refused NotEnabled
       unfolding checked_reply
       checked-not-enabled e = if-false _ _ long ∙ if-true _ _ (ap not e)
 
@@ -60,7 +62,7 @@ module _ (p : Platform) (t : Tables) where
 
   module _ (room h : ℕ) (q : Registers) where
     pub call-not-started : (state_of t.harts h ≡ STARTED → ⊥)
-        → enabled_reply p (view t h) (call room h q) ≡ refused not_started
+        → enabled_reply p (view t h) (call room h q) ≡ refused NotStarted
     unfolding enabled_reply view
     call-not-started n = if-true _ _ (ap not (ne_eqb _ _ n))
 

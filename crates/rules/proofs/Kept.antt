@@ -4,7 +4,8 @@ use mathlib.Core.Bool.{true, false}
 use mathlib.Core.List.{List, [], ◌∷◌, map}
 use Prim.Native.Nat.{ℕ, ◌+◌, ◌<◌, zero-le}
 use native.Mathlib.Omega.{arith}
-use lib.IntN.{ℤ}
+use Rattle.rules.specs.declared.answers.Error.{Error}
+use Rattle.rules.specs.declared.answers.Refusal.{Refusal}
 use lib.Dec.{eqb}
 use lib.ListN.{get_or, set, length, length-set, replicate, length-replicate, get_or-replicate}
 use borrow.Author.Tests.{not-false}
@@ -73,7 +74,7 @@ module _ (p : Platform) where
       )
 
   commit-kept : (t : Tables) (h : ℕ) → enabled p h ≡ true → TablesWellFormed p t
-      → {es : List InRow} {ks : List ℕ} {xs : List ℤ} (r : Reply)
+      → {es : List InRow} {ks : List Refusal} {xs : List Error} (r : Reply)
       → Lawful p t.harts es r → ReplyFine ks xs r → TablesWellFormed p (commit t h r)
   unfolding commit own_at
   commit-kept t h on w (refused k) e f = w

@@ -23,6 +23,7 @@ pub mod Counting
 pub mod Passed
 pub mod Traffic
 pub mod Notes
+pub mod SentLaws
 pub mod Reach
 pub mod SendsAccepted
 pub mod Deeds

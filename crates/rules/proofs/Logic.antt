@@ -105,3 +105,23 @@ not-or false b f = refl
 pub not-or-inv : (a b : Bool) → (not a || b) ≡ true → a ≡ true → b ≡ true
 not-or-inv true b e f = e
 not-or-inv false b e f = absurd (false-true f)
+
+-- ----- `a && b` in code: b where a holds, else a
+
+pub and-yes : {a b v : Bool} → a ≡ true → v ≡ b → v ≡ (a && b)
+and-yes {a} {b} {v} e q = rw e q
+
+pub and-no : (a b v : Bool) → a ≡ false → v ≡ a → v ≡ (a && b)
+and-no a b v e q = q ∙ e ∙ (rw e refl)
+
+pub and-assoc : (a b c : Bool) → ((a && b) && c) ≡ (a && (b && c))
+and-assoc true b c = refl
+and-assoc false b c = refl
+
+-- ----- `a || b` in code: a where a holds, else b
+
+pub or-yes : (a b v : Bool) → a ≡ true → v ≡ a → v ≡ (a || b)
+or-yes a b v e q = q ∙ e ∙ (rw e refl)
+
+pub or-no : {a b v : Bool} → a ≡ false → v ≡ b → v ≡ (a || b)
+or-no {a} {b} {v} e q = rw e q

@@ -7,7 +7,8 @@ use native.Mathlib.Omega.{arith}
 use lib.Dec.{eqb}
 use lib.Seq.{get_or-set_other, get_or-set_same}
 use lib.ListN.{get_or-eq_default, get_or, get_or-replicate, length, length-replicate, replicate, set}
-use lib.IntN.{ℤ}
+use Rattle.rules.specs.declared.answers.Error.{Error}
+use Rattle.rules.specs.declared.answers.Refusal.{Refusal}
 use borrow.Author.Tests.{eqb-false, eqb-true}
 use Rattle.rules.specs.Names.{non_retentive_type, HSM, RESUME_PENDING, START_PENDING, STARTED, STOP_PENDING}
 use Rattle.rules.specs.Names.{STOPPED, SUSPENDED, counters, harts, retentive_type}
@@ -25,12 +26,12 @@ use Rattle.rules.specs.Machine.{life_reply, plain_reply, reply, request_reply, w
 use Rattle.rules.specs.Tables.{Tables, blank, counter_at, fresh, hart_at, idle, in_state, own_at}
 use Rattle.rules.specs.Requests.{Request, hart_start, hart_stop, hart_suspend, life, other, request}
 use Rattle.rules.specs.Lives.{suspend}
-use Rattle.rules.specs.declared.records.Next.{Next}
+use Rattle.std.specs.Prelude.{Option}
 use Rattle.rules.specs.declared.platform.Platform.{Platform}
 use Rattle.rules.specs.declared.answers.Registers.{Registers}
 use Rattle.rules.specs.declared.actions.Action.{Action}
 use Rattle.rules.specs.declared.records.Counter.{Counter}
-use Rattle.rules.specs.declared.records.Next.TheVariants.{Forbidden, To}
+use Rattle.std.specs.Prelude.{None, Some}
 use Rattle.rules.specs.declared.records.Hart.{Hart}
 use Rattle.rules.proofs.HartWays.{suspend-no-type, suspend-given, suspend-nowhere, suspend-retentive}
 use Rattle.rules.proofs.Logic.{below_or, by_cases, if-both}
@@ -71,11 +72,11 @@ same : (x : Hart) → SameNote x x
 same x = record { retentive = refl; address = refl; opaque = refl }
 
 -- a record's next one has the same note
-data NextNote (x : Hart) : Next → Type 0 where
-  n-to : {y : Hart} → SameNote x y → NextNote x (To y)
-  n-forbidden : NextNote x Forbidden
+data NextNote (x : Hart) : Option Hart → Type 0 where
+  n-to : {y : Hart} → SameNote x y → NextNote x (Some y)
+  n-forbidden : NextNote x None
 
-step : {x : Hart} {b : Bool} {m n : Next} → (b ≡ true → NextNote x m) → (b ≡ false → NextNote x n)
+step : {x : Hart} {b : Bool} {m n : Option Hart} → (b ≡ true → NextNote x m) → (b ≡ false → NextNote x n)
     → NextNote x (when b then m else n)
 step {x} {b} f g = if-both (NextNote x) b f g
 
@@ -110,8 +111,8 @@ set-sleep hs h x k away =
 -- ----- every reply
 
 data NotesStay (hs : List Hart) (es : List InRow) : Reply → Type 0 where
-  s-refused : {k : ℕ} → NotesStay hs es (refused k)
-  s-failed : {e : ℤ} → NotesStay hs es (failed e)
+  s-refused : {k : Refusal} → NotesStay hs es (refused k)
+  s-failed : {e : Error} → NotesStay hs es (failed e)
   s-did : {d : Done} → NotesSame hs es d.harts → NotesStay hs es (did d)
 
 walk : {hs : List Hart} {es : List InRow} {b : Bool} {x y : Reply} → (b ≡ true → NotesStay hs es x)
@@ -143,11 +144,11 @@ request-stay p v h (life (hart_suspend y a o)) =
     (λ _. walk (λ _. s-failed) (λ _. moves-stay v _ _ _ (set-sleep v.harts h _))))
 request-stay p v h (other q) = plain-stay v (plain_reply p v q)
 
-goes_on-stay : (v : View) (h : ℕ) (acts : List Action) {es : List InRow} (n : Next)
+goes_on-stay : (v : View) (h : ℕ) (acts : List Action) {es : List InRow} (n : Option Hart)
     → NextNote (hart_at v.harts h) n → NotesStay v.harts es (goes_on v h acts n)
 unfolding goes_on
-goes_on-stay v h acts (To x) (n-to s) = moves-stay v _ _ _ (set-note v.harts _ h x s)
-goes_on-stay v h acts Forbidden n-forbidden = s-refused
+goes_on-stay v h acts (Some x) (n-to s) = moves-stay v _ _ _ (set-note v.harts _ h x s)
+goes_on-stay v h acts None n-forbidden = s-refused
 
 enabled-stay : (p : Platform) (v : View) (op : Operation) → NotesStay v.harts (event_of op) (enabled_reply p v op)
 unfolding enabled_reply done_reply wake_reply event_reply

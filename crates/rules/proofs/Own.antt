@@ -2,15 +2,14 @@
 use mathlib.Core.List.{Memᴰ, List, [], ◌∷◌, map}
 use mathlib.Core.Path.{◌≡◌, refl, ap, sym, ◌∙◌, subst}
 use mathlib.Core.Bool.{Bool, true, false}
-use mathlib.Core.Option.{Option, none, some}
-use Prim.Native.Nat.{ℕ, ◌-◌, ◌≤◌, zero-le}
+use Prim.Native.Nat.{ℕ, ◌-◌, ◌≤◌}
 use native.Mathlib.Omega.{arith}
 use lib.Dec.{leb}
-use lib.IntN.{ℤ}
+use Rattle.rules.specs.declared.answers.Error.{Error}
+use Rattle.rules.specs.declared.answers.Refusal.{Refusal}
 use lib.ListN.{get_or, set, length, length-set, length-map, get_or-map}
 use borrow.Author.Tests.{leb-true, not-false}
 use Rattle.rules.specs.Refusals.{errors_of, plain_errors, refusals_of, request_errors}
-use Rattle.rules.specs.Names.{invalid_param, not_enabled, not_supported, not_well_formed, short_memory, state_forbids}
 use Rattle.rules.specs.Names.{counters, first_event, last_event, last_code}
 use Rattle.rules.specs.Choice.{when◌then◌else◌}
 use Rattle.rules.specs.Sets.{bit, all}
@@ -33,11 +32,15 @@ use Rattle.rules.specs.Machine.{enabled_reply}
 use Rattle.rules.specs.declared.platform.Platform.{Platform}
 use Rattle.rules.specs.declared.records.Hart.{Hart}
 use Rattle.rules.specs.declared.records.Counter.{Counter}
-use Rattle.rules.specs.declared.records.Next.{Next}
-use Rattle.rules.specs.declared.records.Next.TheVariants.{To, Forbidden}
+use Rattle.std.specs.Prelude.{Option, is_some}
+use Rattle.std.proofs.lemmas.Option.{same_Some, none-some}
+use Rattle.std.specs.Prelude.{Some, None}
 use Rattle.rules.specs.declared.actions.Action.{Action}
 use Rattle.rules.proofs.Lists.{first-in, fourth-in, second-in, third-in, set-either}
-use Rattle.rules.proofs.Logic.{if-both, by_cases, clash, and_l, and_r, and-of, false-true}
+use Rattle.rules.proofs.Logic.{if-both, and_l, and_r, and-of, false-true}
+use Rattle.rules.specs.declared.answers.Error.TheVariants.{InvalidParam, NotSupported}
+use Rattle.rules.specs.declared.answers.Refusal.TheVariants.{NotEnabled, NotWellFormed, ShortMemory}
+use Rattle.rules.specs.declared.answers.Refusal.TheVariants.{StateForbids}
 
 -- ----- eight counters that are fine
 
@@ -64,15 +67,17 @@ event-code e h = omega (arith, leb-true e last_event (and_r (leb first_event e) 
 
 configured-fine : (flags e : ℕ) (c : Counter) → e ≤ last_code → CounterFine (configured flags e c)
 unfolding configured
-configured-fine flags e c l = record { codes = λ _. l; runs = λ _. refl; canonical = λ n. absurd (false-true (sym n)) }
+configured-fine flags e c l = record {
+  codes = λ k q. subst (λ (n : ℕ). n ≤ last_code) (same_Some e k q) l;
+  runs = λ _. refl;
+}
 
 ended-fine : (flags : ℕ) (c : Counter) → CounterFine c → CounterFine (ended flags c)
 unfolding ended
 ended-fine flags c f = record {
-  codes = λ m. if-both (λ (n : ℕ). n ≤ last_code) (bit flags 0) (λ _. zero-le) (λ _. f.codes (and_l c.mapped _ m));
+  codes = λ k. if-both (λ (o : Option ℕ). o ≡ Some k → k ≤ last_code) (bit flags 0)
+      (λ _ q. absurd (none-some k q)) (λ _. f.codes k);
   runs = λ r. absurd (false-true r);
-  canonical = λ n. if-both (λ (k : ℕ). k ≡ 0) (bit flags 0) (λ _. refl)
-      (λ b. f.canonical (by_cases c.mapped (λ m. absurd (clash (and-of m (rw b refl)) n)) (λ m. m)));
 }
 
 -- a start keeps what is mapped
@@ -80,8 +85,8 @@ begun-mapped : (flags x : ℕ) (cs : List Counter) (i j : ℕ) → is_mapped cs 
     → is_mapped (set cs i (begun flags x (counter_at cs i))) j ≡ true
 unfolding is_mapped counter_at begun
 begun-mapped flags x cs i j m =
-    set-either (λ (c : Counter). c.mapped ≡ true) blank cs i j (begun flags x (counter_at cs i))
-    (λ e. subst (λ (k : ℕ). (counter_at cs k).mapped ≡ true) e m) m
+    set-either (λ (c : Counter). is_some c.event ≡ true) blank cs i j (begun flags x (counter_at cs i))
+    (λ e. subst (λ (k : ℕ). is_some (counter_at cs k).event ≡ true) e m) m
 
 all-mapped : (flags x : ℕ) (cs : List Counter) (i : ℕ) (is : List ℕ) → all (is_mapped cs) is ≡ true
     → all (is_mapped (set cs i (begun flags x (counter_at cs i)))) is ≡ true
@@ -96,27 +101,27 @@ begun-fine : (flags x : ℕ) (is : List ℕ) (cs : List Counter) → all (is_map
 unfolding each all begun is_mapped
 begun-fine flags x [] cs a f = f
 begun-fine flags x (i ∷ is) cs a f =
-    let m : (counter_at cs i).mapped ≡ true = and_l (is_mapped cs i) _ a in
+    let m : is_some (counter_at cs i).event ≡ true = and_l (is_mapped cs i) _ a in
     begun-fine flags x is (set cs i (begun flags x (counter_at cs i)))
     (all-mapped flags x cs i is (and_r (is_mapped cs i) _ a))
     (set-fine cs i (begun flags x (counter_at cs i))
-    (record { codes = (f.1 i).codes; runs = λ _. m; canonical = (f.1 i).canonical }) f)
+    (record { codes = (f.1 i).codes; runs = λ _. m }) f)
 
 -- an error of these, or counters that are fine
-data PlainFine (es : List ℤ) : Plain → Type 0 where
-  f-fails : {e : ℤ} → Memᴰ e es → PlainFine es (fails e)
+data PlainFine (es : List Error) : Plain → Type 0 where
+  f-fails : {e : Error} → Memᴰ e es → PlainFine es (fails e)
   f-gives : {n : ℕ} {cs : List Counter} → Fine cs → PlainFine es (gives n cs)
   f-sends : {acts : List Action} {c : ℕ} {ks : List ℕ} → PlainFine es (sends acts c ks)
 
-walk : {es : List ℤ} {b : Bool} {x y : Plain} → (b ≡ true → PlainFine es x) → (b ≡ false → PlainFine es y)
+walk : {es : List Error} {b : Bool} {x y : Plain} → (b ≡ true → PlainFine es x) → (b ≡ false → PlainFine es y)
     → PlainFine es (when b then x else y)
 walk {es} {b} f g = if-both (PlainFine es) b f g
 
 chosen-fine : (flags e : ℕ) (cs : List Counter) → e ≤ last_code → Fine cs → (o : Option ℕ)
-    → PlainFine (invalid_param ∷ not_supported ∷ []) (configure_chosen flags e cs o)
+    → PlainFine (InvalidParam ∷ NotSupported ∷ []) (configure_chosen flags e cs o)
 unfolding configure_chosen
-chosen-fine flags e cs l f none = f-fails second-in
-chosen-fine flags e cs l f (some i) =
+chosen-fine flags e cs l f None = f-fails second-in
+chosen-fine flags e cs l f (Some i) =
     f-gives (set-fine cs i (configured flags e (counter_at cs i)) (configured-fine flags e (counter_at cs i) l) f)
 
 plain-fine : (p : Platform) (v : View) → Fine v.own → (q : PlainRequest)
@@ -163,7 +168,7 @@ counted-blank e = refl
 
 counted-fine : (e : ℕ) (c : Counter) → CounterFine c → CounterFine (counted e c)
 unfolding counted
-counted-fine e c f = if-both CounterFine _ (λ _. record { codes = f.codes; runs = f.runs; canonical = f.canonical })
+counted-fine e c f = if-both CounterFine _ (λ _. record { codes = f.codes; runs = f.runs })
     (λ _. f)
 
 -- counter i after an event
@@ -177,29 +182,29 @@ event-fine e cs f =
 
 -- ----- every reply is a listed refusal, a listed error, or leaves the caller's counters fine
 
-pub data ReplyFine (ks : List ℕ) (es : List ℤ) : Reply → Type 0 where
-  r-refused : {k : ℕ} → Memᴰ k ks → ReplyFine ks es (refused k)
-  r-failed : {e : ℤ} → Memᴰ e es → ReplyFine ks es (failed e)
+pub data ReplyFine (ks : List Refusal) (es : List Error) : Reply → Type 0 where
+  r-refused : {k : Refusal} → Memᴰ k ks → ReplyFine ks es (refused k)
+  r-failed : {e : Error} → Memᴰ e es → ReplyFine ks es (failed e)
   r-did : {d : Done} → Fine d.own → ReplyFine ks es (did d)
 
-stroll : {ks : List ℕ} {es : List ℤ} {b : Bool} {x y : Reply} → (b ≡ true → ReplyFine ks es x)
+stroll : {ks : List Refusal} {es : List Error} {b : Bool} {x y : Reply} → (b ≡ true → ReplyFine ks es x)
     → (b ≡ false → ReplyFine ks es y)
     → ReplyFine ks es (when b then x else y)
 stroll {ks} {es} {b} f g = if-both (ReplyFine ks es) b f g
 
-plain-reply-fine : {ks : List ℕ} {es : List ℤ} (v : View) → Fine v.own → {q : Plain} → PlainFine es q
+plain-reply-fine : {ks : List Refusal} {es : List Error} (v : View) → Fine v.own → {q : Plain} → PlainFine es q
     → ReplyFine ks es (plain v q)
 unfolding plain
 plain-reply-fine v f (f-fails l) = r-failed l
 plain-reply-fine v f (f-gives g) = r-did g
 plain-reply-fine v f f-sends = r-did f
 
-moves-fine : {ks : List ℕ} {es : List ℤ} (v : View) (k : Bool) (acts : List Action) (hs : List Hart) → Fine v.own
+moves-fine : {ks : List Refusal} {es : List Error} (v : View) (k : Bool) (acts : List Action) (hs : List Hart) → Fine v.own
     → ReplyFine ks es (moves v k acts hs)
 unfolding moves
 moves-fine v k acts hs f = r-did f
 
-request-fine : {ks : List ℕ} (p : Platform) (v : View) (h : ℕ) → Fine v.own → (q : Request)
+request-fine : {ks : List Refusal} (p : Platform) (v : View) (h : ℕ) → Fine v.own → (q : Request)
     → ReplyFine ks (request_errors q) (request_reply p v h q)
 unfolding request_reply life_reply start_reply stop_reply suspend_reply
 request-fine p v h f (life (hart_start k a o)) =
@@ -211,11 +216,11 @@ request-fine p v h f (life (hart_suspend y a o)) =
     (λ _. stroll (λ _. r-failed first-in) (λ _. stroll (λ _. r-failed second-in) (λ _. moves-fine v _ _ _ f)))
 request-fine p v h f (other q) = plain-reply-fine v f (plain-fine p v f q)
 
-goes_on-fine : {es : List ℤ} (v : View) (h : ℕ) (acts : List Action) (n : Next) → Fine v.own
-    → ReplyFine (not_well_formed ∷ short_memory ∷ not_enabled ∷ state_forbids ∷ []) es (goes_on v h acts n)
+goes_on-fine : {es : List Error} (v : View) (h : ℕ) (acts : List Action) (n : Option Hart) → Fine v.own
+    → ReplyFine (NotWellFormed ∷ ShortMemory ∷ NotEnabled ∷ StateForbids ∷ []) es (goes_on v h acts n)
 unfolding goes_on
-goes_on-fine v h acts (To x) f = moves-fine v _ _ _ f
-goes_on-fine v h acts Forbidden f = r-refused fourth-in
+goes_on-fine v h acts (Some x) f = moves-fine v _ _ _ f
+goes_on-fine v h acts None f = r-refused fourth-in
 
 pub enabled-fine : (p : Platform) (v : View) (op : Operation) → Fine v.own
     → ReplyFine (refusals_of op) (errors_of op) (enabled_reply p v op)

@@ -4,6 +4,7 @@ use mathlib.Core.Bool.{Bool, true, false}
 use Prim.Native.Nat.{ℕ}
 use native.Mathlib.Omega.{arith}
 use borrow.Author.Tests.{not-false}
+use Rattle.rules.specs.declared.answers.Refusal.{Refusal}
 use Rattle.rules.specs.Choice.{when◌then◌else◌}
 use Rattle.rules.specs.Platform.{enabled, platform_accepted}
 use Rattle.rules.specs.Tables.{Tables, well_formed, tables_well_formed, TablesWellFormed}
@@ -14,7 +15,7 @@ use Rattle.rules.proofs.Logic.{false-true, and_r}
 use Rattle.rules.proofs.WellFormed.{tables_agree}
 
 -- a choice that is done was not refused
-pub if-did : (b : Bool) (k : ℕ) (r : Reply) (d : Done) → (when b then refused k else r) ≡ did d
+pub if-did : (b : Bool) (k : Refusal) (r : Reply) (d : Done) → (when b then refused k else r) ≡ did d
     → (b ≡ false) × (r ≡ did d)
 unfolding when◌then◌else◌
 if-did true k r d e = let z : ◌≡◌ {A = ℕ} 0 1 = cc in absurd (omega arith)

@@ -5,14 +5,17 @@ use mathlib.Core.List.{map}
 use Prim.Native.Nat.{ℕ, ◌+◌}
 use native.Mathlib.Omega.{arith}
 use lib.Dec.{eqb}
-use lib.IntN.{ℤ}
+use Rattle.rules.specs.declared.answers.Error.{Error}
 use Rattle.rules.specs.Names.{IPI, RFENCE, interrupt_kind, fence_kind, interrupt_sent}
 use Rattle.rules.specs.Choice.{when◌then◌else◌}
 use Rattle.rules.specs.Tables.{Tables}
 use Rattle.rules.specs.Replies.{View, view, Done, did, Plain, fails, plain}
 use Rattle.rules.specs.Masks.{reached, action_for, send_to}
-use Rattle.rules.specs.Fences.{Fence, fence_i, sfence_vma, sfence_vma_asid, hfence_gvma_vmid, hfence_gvma}
-use Rattle.rules.specs.Fences.{hfence_vvma_asid, hfence_vvma, function_of, sent_code, interrupt_reply, fence_reply}
+use Rattle.rules.specs.declared.actions.Fence.{Fence}
+use Rattle.rules.specs.declared.actions.Fence.TheVariants.{FenceI, SfenceVma, SfenceVmaAsid}
+use Rattle.rules.specs.declared.actions.Fence.TheVariants.{HfenceGvmaVmid, HfenceGvma}
+use Rattle.rules.specs.declared.actions.Fence.TheVariants.{HfenceVvmaAsid, HfenceVvma}
+use Rattle.rules.specs.Fences.{function_of, sent_code, interrupt_reply, fence_reply}
 use Rattle.rules.specs.Requests.{PlainRequest, other, fence, unknown, interrupt_request, fence_request, request}
 use Rattle.rules.specs.Machine.{plain_reply, request_reply, call, enabled_reply, reply}
 use Rattle.rules.specs.Events.{sent_event, operands_of, start_in, size_in, id_in}
@@ -25,13 +28,13 @@ use Rattle.rules.proofs.Passed.{if-did, did-passed}
 -- the table's rule, by the standard's names
 pub sent-code : (f : Fence) → sent_code (function_of f) ≡ sent_event f
 unfolding sent_code
-sent-code fence_i = refl
-sent-code sfence_vma = refl
-sent-code sfence_vma_asid = refl
-sent-code hfence_gvma_vmid = refl
-sent-code hfence_gvma = refl
-sent-code hfence_vvma_asid = refl
-sent-code hfence_vvma = refl
+sent-code FenceI = refl
+sent-code SfenceVma = refl
+sent-code SfenceVmaAsid = refl
+sent-code HfenceGvmaVmid = refl
+sent-code HfenceGvma = refl
+sent-code HfenceVvmaAsid = refl
+sent-code HfenceVvma = refl
 
 -- what a fence by name asks for
 pub fence-asked : (q : Registers) (f : Fence) → q.a7 ≡ RFENCE → q.a6 ≡ function_of f
@@ -39,16 +42,16 @@ pub fence-asked : (q : Registers) (f : Fence) → q.a7 ≡ RFENCE → q.a6 ≡ f
     (fence (function_of f) q.a0 q.a1 (start_in (operands_of f) q) (size_in (operands_of f) q)
     (id_in (operands_of f) q))
 unfolding request fence_request when◌then◌else◌
-fence-asked q fence_i a7 a6 = rw (a7, a6) refl
-fence-asked q sfence_vma a7 a6 = rw (a7, a6) refl
-fence-asked q sfence_vma_asid a7 a6 = rw (a7, a6) refl
-fence-asked q hfence_gvma_vmid a7 a6 = rw (a7, a6) refl
-fence-asked q hfence_gvma a7 a6 = rw (a7, a6) refl
-fence-asked q hfence_vvma_asid a7 a6 = rw (a7, a6) refl
-fence-asked q hfence_vvma a7 a6 = rw (a7, a6) refl
+fence-asked q FenceI a7 a6 = rw (a7, a6) refl
+fence-asked q SfenceVma a7 a6 = rw (a7, a6) refl
+fence-asked q SfenceVmaAsid a7 a6 = rw (a7, a6) refl
+fence-asked q HfenceGvmaVmid a7 a6 = rw (a7, a6) refl
+fence-asked q HfenceGvma a7 a6 = rw (a7, a6) refl
+fence-asked q HfenceVvmaAsid a7 a6 = rw (a7, a6) refl
+fence-asked q HfenceVvma a7 a6 = rw (a7, a6) refl
 
 -- a reply that is done did not fail
-if-sent : (v : View) (b : Bool) (e : ℤ) (q : Plain) (d : Done) → plain v (when b then fails e else q) ≡ did d
+if-sent : (v : View) (b : Bool) (e : Error) (q : Plain) (d : Done) → plain v (when b then fails e else q) ≡ did d
     → plain v q ≡ did d
 unfolding plain when◌then◌else◌
 if-sent v true e q d i = let z : ◌≡◌ {A = ℕ} 0 1 = cc in absurd (omega arith)

@@ -8,8 +8,7 @@ use borrow.Author.Tests.{eqb-false, eqb-true}
 use Rattle.rules.specs.Sets.{all, bit, ones, every, those, names, keep}
 use Rattle.rules.specs.Platform.{hypervisor, width, enabled}
 use Rattle.rules.specs.Choice.{when◌then◌else◌}
-use Rattle.rules.specs.Names.{harts, interrupt_kind, fence_kind, interrupt_sent, not_supported, invalid_param}
-use Rattle.rules.specs.Names.{invalid_address}
+use Rattle.rules.specs.Names.{harts, interrupt_kind, fence_kind, interrupt_sent}
 use Rattle.rules.specs.Masks.{selected, selection_fits, is_reached, reached, send_to, selects, bit_fits, reaches}
 use Rattle.rules.specs.Fences.{sent_code, id_valid, hypervisors_fit, range_valid, interrupt_reply, fence_reply}
 use Rattle.rules.specs.Replies.{View, fails}
@@ -19,6 +18,8 @@ use Rattle.rules.proofs.Logic.{if-true, if-false, by_cases, same_test, not-or, n
 use Rattle.rules.proofs.SetLaws.{every-at, every_of, those-only, those-ext}
 use Rattle.rules.proofs.Ascending.{all_of, keep-those, all-those, numbers-in, numbers-only}
 use Rattle.rules.proofs.Masks.{selected-everyone, selected-named, selected-those, fits_in}
+use Rattle.rules.specs.declared.answers.Error.TheVariants.{NotSupported, InvalidParam}
+use Rattle.rules.specs.declared.answers.Error.TheVariants.{InvalidAddress}
 
 -- ----- hart by hart
 
@@ -72,7 +73,7 @@ module _ (p : Platform) (m base : ℕ) where
 -- ----- the replies
 
 module _ (p : Platform) (v : View) (m base : ℕ) where
-  pub interrupt-unfit : selection_fits p m base ≡ false → interrupt_reply p v m base ≡ fails invalid_param
+  pub interrupt-unfit : selection_fits p m base ≡ false → interrupt_reply p v m base ≡ fails InvalidParam
   unfolding interrupt_reply
   interrupt-unfit e = if-true _ _ (ap not e)
 
@@ -82,23 +83,23 @@ module _ (p : Platform) (v : View) (m base : ℕ) where
   interrupt-sent e = if-false _ _ (ap not e)
 
   module _ (f s n i : ℕ) where
-    pub fence-unfit : selection_fits p m base ≡ false → fence_reply p v f m base s n i ≡ fails invalid_param
+    pub fence-unfit : selection_fits p m base ≡ false → fence_reply p v f m base s n i ≡ fails InvalidParam
     unfolding fence_reply
     fence-unfit e = if-true _ _ (ap not e)
 
     module _ (fit : selection_fits p m base ≡ true) where
-      pub fence-no-id : id_valid p f i ≡ false → fence_reply p v f m base s n i ≡ fails invalid_param
+      pub fence-no-id : id_valid p f i ≡ false → fence_reply p v f m base s n i ≡ fails InvalidParam
       unfolding fence_reply
       fence-no-id e = if-false _ _ (ap not fit) ∙ if-true _ _ (ap not e)
 
       module _ (id : id_valid p f i ≡ true) where
         pub fence-no-hypervisor : hypervisors_fit p f (selected p m base) ≡ false
-            → fence_reply p v f m base s n i ≡ fails not_supported
+            → fence_reply p v f m base s n i ≡ fails NotSupported
         unfolding fence_reply
         fence-no-hypervisor e = if-false _ _ (ap not fit) ∙ if-false _ _ (ap not id) ∙ if-true _ _ (ap not e)
 
         module _ (hyp : hypervisors_fit p f (selected p m base) ≡ true) where
-          pub fence-no-range : range_valid (width p) s n ≡ false → fence_reply p v f m base s n i ≡ fails invalid_address
+          pub fence-no-range : range_valid (width p) s n ≡ false → fence_reply p v f m base s n i ≡ fails InvalidAddress
           unfolding fence_reply
           fence-no-range e =
               if-false _ _ (ap not fit) ∙ if-false _ _ (ap not id) ∙ if-false _ _ (ap not hyp) ∙ if-true _ _ (ap not e)

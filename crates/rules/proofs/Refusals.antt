@@ -8,7 +8,6 @@ use Rattle.rules.specs.Refusals.{errors_of, refusals_of, RefusalsAlterNothing, L
 use Rattle.rules.specs.Refusals.{listed-error, no-refusal, RefusalsListed}
 use Rattle.rules.specs.Machine.{call, completion, event, is_short, waking, Operation, hart_of, checked_reply}
 use Rattle.rules.specs.Machine.{reply, after}
-use Rattle.rules.specs.Names.{not_enabled, not_well_formed, short_memory}
 use Rattle.rules.specs.Platform.{platform_accepted}
 use Rattle.rules.specs.Tables.{Tables, well_formed, tables_well_formed}
 use Rattle.rules.specs.Replies.{view, Reply, refused, failed, did, accepted, answer_of, actions_of, words_of, laid}
@@ -19,6 +18,7 @@ use Rattle.rules.proofs.Lists.{first-in, second-in, third-in}
 use Rattle.rules.proofs.Logic.{if-false, if-both, and_r, not-of, false-true}
 use Rattle.rules.proofs.WellFormed.{enabled-under, tables_agree}
 use Rattle.rules.proofs.Own.{ReplyFine, r-refused, r-failed, r-did, enabled-fine}
+use Rattle.rules.specs.declared.answers.Refusal.TheVariants.{NotEnabled, NotWellFormed, ShortMemory}
 
 -- ----- refusals alter nothing
 
@@ -46,19 +46,19 @@ fine-listed (r-failed l) = listed-error l
 fine-listed (r-did f) = no-refusal
 
 -- H1 and H2 are listed for every operation, H4 for every one that may be short
-h1-listed : (op : Operation) → Memᴰ not_well_formed (refusals_of op)
+h1-listed : (op : Operation) → Memᴰ NotWellFormed (refusals_of op)
 h1-listed (call room h q) = first-in
 h1-listed (completion room h) = first-in
 h1-listed (waking room h) = first-in
 h1-listed (event h e) = first-in
 
-h4-listed : (op : Operation) → is_short op ≡ true → Memᴰ short_memory (refusals_of op)
+h4-listed : (op : Operation) → is_short op ≡ true → Memᴰ ShortMemory (refusals_of op)
 h4-listed (call room h q) e = second-in
 h4-listed (completion room h) e = second-in
 h4-listed (waking room h) e = second-in
 h4-listed (event h c) e = absurd (false-true e)
 
-h2-listed : (op : Operation) → Memᴰ not_enabled (refusals_of op)
+h2-listed : (op : Operation) → Memᴰ NotEnabled (refusals_of op)
 h2-listed (call room h q) = third-in
 h2-listed (completion room h) = third-in
 h2-listed (waking room h) = third-in

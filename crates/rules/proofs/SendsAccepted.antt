@@ -3,19 +3,19 @@ use mathlib.Core.Path.{refl, ◌≡◌, ap, ◌∙◌}
 use mathlib.Core.List.{List}
 use mathlib.Core.Bool.{false, true}
 use Prim.Native.Nat.{ℕ}
-use lib.IntN.{ℤ}
+use Rattle.rules.specs.declared.answers.Error.{Error}
 use borrow.Author.Tests.{le-ltb}
 use Rattle.rules.specs.Platform.{width}
 use Rattle.rules.specs.Tables.{Tables}
 use Rattle.rules.specs.Counters.{event_reply}
 use Rattle.rules.specs.Masks.{selected, selection_fits, send_to}
 use Rattle.rules.specs.Machine.{call, event, plain_reply, reply, request_reply}
-use Rattle.rules.specs.Names.{IPI, RFENCE, action_memory, invalid_address, invalid_param, last_reported}
-use Rattle.rules.specs.Names.{not_supported}
+use Rattle.rules.specs.Names.{IPI, RFENCE, action_memory, last_reported}
 use Rattle.rules.specs.Deliveries.{CanCall, EventsAccepted, FenceAnswered, FencesAccepted, InterruptAnswered}
 use Rattle.rules.specs.Deliveries.{InterruptsAccepted}
 use Rattle.rules.specs.Events.{id_in, operands_of, size_in, start_in}
-use Rattle.rules.specs.Fences.{Fence, function_of, hypervisors_fit, id_valid, range_valid}
+use Rattle.rules.specs.declared.actions.Fence.{Fence}
+use Rattle.rules.specs.Fences.{function_of, hypervisors_fit, id_valid, range_valid}
 use Rattle.rules.specs.Requests.{PlainRequest, interrupt, other, request}
 use Rattle.rules.specs.Replies.{Plain, accepted, failed, fails, plain, view}
 use Rattle.rules.specs.declared.answers.Registers.{Registers}
@@ -28,6 +28,8 @@ use Rattle.rules.proofs.Logic.{below_or, by_cases, clash}
 use Rattle.rules.proofs.RequestWays.{interrupt-0, request-ipi}
 use Rattle.rules.proofs.ReachWays.{fence-no-hypervisor, fence-no-id, fence-no-range, fence-sent, fence-unfit}
 use Rattle.rules.proofs.ReachWays.{interrupt-sent, interrupt-unfit}
+use Rattle.rules.specs.declared.answers.Error.TheVariants.{InvalidAddress, InvalidParam}
+use Rattle.rules.specs.declared.answers.Error.TheVariants.{NotSupported}
 
 module _ (p : Platform) (t : Tables) (room h : ℕ) (q : Registers) (can : CanCall p t room h) where
   -- past every host refusal
@@ -42,7 +44,7 @@ module _ (p : Platform) (t : Tables) (room h : ℕ) (q : Registers) (can : CanCa
   unfolding request_reply
   answered e f = call-reply ∙ ap (request_reply p (view t h) h) e ∙ ap (plain (view t h)) f
 
-  failing : {x : PlainRequest} {e : ℤ} → request q ≡ other x → plain_reply p (view t h) x ≡ fails e
+  failing : {x : PlainRequest} {e : Error} → request q ≡ other x → plain_reply p (view t h) x ≡ fails e
       → reply p t (call room h q) ≡ failed e
   unfolding plain
   failing e f = answered e f
@@ -53,14 +55,14 @@ module _ (p : Platform) (t : Tables) (room h : ℕ) (q : Registers) (can : CanCa
   sending k s n i c hs e f = ap accepted (answered e f)
 
   -- what failed was not accepted
-  failed-not : {e : ℤ} → reply p t (call room h q) ≡ failed e → accepted (reply p t (call room h q)) ≡ true → ⊥
+  failed-not : {e : Error} → reply p t (call room h q) ≡ failed e → accepted (reply p t (call room h q)) ≡ true → ⊥
   failed-not e y = clash y (ap accepted e)
 
   interrupts : q.a7 ≡ IPI → q.a6 ≡ 0 → InterruptAnswered p (reply p t (call room h q)) q
   unfolding plain_reply view
   interrupts a7 a6 =
       let asks : request q ≡ other (interrupt q.a0 q.a1) = request-ipi q a7 ∙ ap other (interrupt-0 q a6) in
-      let none : selection_fits p q.a0 q.a1 ≡ false → reply p t (call room h q) ≡ failed invalid_param =
+      let none : selection_fits p q.a0 q.a1 ≡ false → reply p t (call room h q) ≡ failed InvalidParam =
       λ n. failing asks (interrupt-unfit p (view t h) q.a0 q.a1 n) in
       record {
         accepts = (
@@ -79,18 +81,18 @@ module _ (p : Platform) (t : Tables) (room h : ℕ) (q : Registers) (can : CanCa
       let i = id_in (operands_of f) q in
       let k = function_of f in
       let asks = fence-asked q f a7 a6 in
-      let no1 : selection_fits p q.a0 q.a1 ≡ false → reply p t (call room h q) ≡ failed invalid_param =
+      let no1 : selection_fits p q.a0 q.a1 ≡ false → reply p t (call room h q) ≡ failed InvalidParam =
       λ e. failing asks (fence-unfit p v q.a0 q.a1 k s n i e) in
       let no2 : selection_fits p q.a0 q.a1 ≡ true → id_valid p k i ≡ false
-      → reply p t (call room h q) ≡ failed invalid_param =
+      → reply p t (call room h q) ≡ failed InvalidParam =
       λ a e. failing asks (fence-no-id p v q.a0 q.a1 k s n i a e) in
       let no3 : selection_fits p q.a0 q.a1 ≡ true → id_valid p k i ≡ true
       → hypervisors_fit p k (selected p q.a0 q.a1) ≡ false
-      → reply p t (call room h q) ≡ failed not_supported =
+      → reply p t (call room h q) ≡ failed NotSupported =
       λ a b e. failing asks (fence-no-hypervisor p v q.a0 q.a1 k s n i a b e) in
       let no4 : selection_fits p q.a0 q.a1 ≡ true → id_valid p k i ≡ true
       → hypervisors_fit p k (selected p q.a0 q.a1) ≡ true → range_valid (width p) s n ≡ false
-      → reply p t (call room h q) ≡ failed invalid_address =
+      → reply p t (call room h q) ≡ failed InvalidAddress =
       λ a b c e. failing asks (fence-no-range p v q.a0 q.a1 k s n i a b c e) in
       record {
         accepts = (

@@ -1,7 +1,7 @@
 -- Laws of sets of numbers: every, those, keep and all, membership, ascending lists, and the numbers that a mask
 -- selects.
 use mathlib.Core.Path.{◌≡◌, refl, sym, ap, ap₂, ◌∙◌, subst}
-use mathlib.Core.Bool.{Bool, true, false, ◌&&◌, and-false}
+use mathlib.Core.Bool.{Bool, true, false, ◌&&◌, ◌||◌, and-false}
 use mathlib.Core.List.Memᴰ
 use mathlib.Core.List.{List, [], ◌∷◌, ◌++◌, append-nil, Memᴰ}
 use mathlib.Core.Logic.{⊎_elim}
@@ -11,8 +11,22 @@ use native.Mathlib.Numerals.{add-one}
 use native.Mathlib.Omega.{arith}
 use lib.ListN.{length, length-append}
 use Rattle.rules.specs.Choice.{when◌then◌else◌}
-use Rattle.rules.specs.Sets.{every, those}
+use Rattle.std.specs.List.{list_all, list_any}
+use Rattle.rules.specs.Sets.{every, those, all, any}
 use Rattle.rules.proofs.Logic.{if-true, if-false, if-both, by_cases, and_l, and_r, and-of}
+
+-- ----- all and any are the library's
+
+module _ {A : Type 0} (f : A → Bool) where
+  pub all-list : (l : List A) → list_all f l ≡ all f l
+  unfolding all
+  all-list [] = refl
+  all-list (x ∷ l) = ap (λ (b : Bool). f x && b) (all-list l)
+
+  pub any-list : (l : List A) → list_any f l ≡ any f l
+  unfolding any
+  any-list [] = refl
+  any-list (x ∷ l) = ap (λ (b : Bool). f x || b) (any-list l)
 
 -- ----- every: f holds at each number below n
 

@@ -5,7 +5,8 @@ use mathlib.Core.Bool.{true, false, Bool}
 use mathlib.Core.Path.{refl, ◌≡◌, ap, ◌∙◌}
 use Prim.Native.Nat.{ℕ, ◌+◌, ◌<◌}
 use native.Mathlib.Omega.{arith}
-use lib.IntN.{ℤ}
+use Rattle.rules.specs.declared.answers.Error.{Error}
+use Rattle.rules.specs.declared.answers.Refusal.{Refusal}
 use lib.Seq.{set-get_or, get_or-set_same, get_or-set_other}
 use lib.ListN.{get_or, set, length}
 use Rattle.rules.specs.Replies.{failed, refused, moves, View, view, Done, Reply, did, plain, counted, tell}
@@ -22,8 +23,8 @@ use Rattle.rules.specs.Tables.{Tables, own_at, counter_at}
 use Rattle.rules.specs.Counters.{event_reply}
 use Rattle.rules.specs.Events.{times, others, occurs}
 use Rattle.rules.specs.declared.records.Hart.{Hart}
-use Rattle.rules.specs.declared.records.Next.{Next}
-use Rattle.rules.specs.declared.records.Next.TheVariants.{To, Forbidden}
+use Rattle.std.specs.Prelude.{Option}
+use Rattle.std.specs.Prelude.{Some, None}
 use Rattle.rules.specs.declared.actions.Action.{Action}
 use Rattle.rules.specs.declared.platform.Platform.{Platform}
 use Rattle.rules.specs.declared.records.Counter.{Counter}
@@ -95,8 +96,8 @@ events-counted p t h e yes' = let a = accepted-did (reply p t (event h e)) yes' 
 
 -- a reply that leaves the counters as they were
 data CountersStay (v : View) : Reply → Type 0 where
-  s-refused : {k : ℕ} → CountersStay v (refused k)
-  s-failed : {e : ℤ} → CountersStay v (failed e)
+  s-refused : {k : Refusal} → CountersStay v (refused k)
+  s-failed : {e : Error} → CountersStay v (failed e)
   s-did : {d : Done} → d.own ≡ v.own → d.told ≡ [] → CountersStay v (did d)
 
 walk : {v : View} {b : Bool} {x y : Reply} → (b ≡ true → CountersStay v x) → (b ≡ false → CountersStay v y)
@@ -121,10 +122,10 @@ unfolding request_reply
 request-stay p v h (life q) e i = life-stay p v h q
 request-stay p v h (other q) e i = let z : ◌≡◌ {A = ℕ} 0 1 = cc in absurd (omega arith)
 
-goes_on-stay : (v : View) (h : ℕ) (acts : List Action) (n : Next) → CountersStay v (goes_on v h acts n)
+goes_on-stay : (v : View) (h : ℕ) (acts : List Action) (n : Option Hart) → CountersStay v (goes_on v h acts n)
 unfolding goes_on
-goes_on-stay v h acts (To x) = moves-stay v _ _ _
-goes_on-stay v h acts Forbidden = s-refused
+goes_on-stay v h acts (Some x) = moves-stay v _ _ _
+goes_on-stay v h acts None = s-refused
 
 enabled-stay : (p : Platform) (v : View) (op : Operation) (e : InRow) → event_of op ≡ e ∷ []
     → CountersStay v (enabled_reply p v op)

@@ -1,28 +1,29 @@
 -- The tests of platform and tables agree with the statements of what they test, both ways.
-use mathlib.Core.Path.{◌≡◌, refl, sym, ap, ◌∙◌}
-use mathlib.Core.Bool.{Bool, true, false, not, ◌&&◌, ◌||◌}
+use mathlib.Core.Path.{◌≡◌, refl, sym, ap, ◌∙◌, subst}
+use mathlib.Core.Bool.{Bool, true, false, not, ◌||◌}
 use mathlib.Core.List.{List}
 use mathlib.Core.Logic.{◌↔◌}
-use Prim.Native.Nat.{ℕ, ◌+◌, ◌^◌, ◌<◌, ◌≤◌, zero-le}
+use Prim.Native.Nat.{ℕ, ◌+◌, ◌^◌, ◌<◌, ◌≤◌}
 use native.Mathlib.Omega.{arith}
 use lib.Dec.{ltb, leb, eqb}
 use lib.ListN.{length, get_or-eq_default}
 use borrow.Author.Tests.{ltb-true, leb-true, eqb-true, lt-ltb, le-ltb, le-leb, eq-eqb, not-true}
-use Rattle.rules.specs.Choice.{when◌then◌else◌}
 use Rattle.rules.specs.Sets.{every}
 use Rattle.rules.specs.Names.{harts, counters, last_code, STOPPED, RESUME_PENDING}
 use Rattle.rules.specs.Platform.{has, enabled, hypervisor, width, used_ranges, range_accepted, platform_accepted}
-use Rattle.rules.specs.Platform.{PlatformAccepted}
+use Rattle.rules.specs.Platform.{PlatformAccepted, within_limits}
 use Rattle.rules.specs.Tables.{Tables, idle, blank, hart_at, own_at, counter_at, is_idle, is_blank, hart_well_formed}
 use Rattle.rules.specs.Tables.{counter_well_formed, shaped, hart_row_well_formed, tables_well_formed, CounterFine}
-use Rattle.rules.specs.Tables.{HartFine, OwnFine, TablesWellFormed}
+use Rattle.rules.specs.Tables.{HartFine, OwnFine, TablesWellFormed, event_well_formed}
+use Rattle.std.specs.Prelude.{Option, Some, None, is_some}
+use Rattle.std.proofs.lemmas.Option.{same_Some, none-some}
 use Rattle.rules.specs.declared.platform.HartSet.{HartSet}
 use Rattle.rules.specs.declared.platform.Range.{Range}
 use Rattle.rules.specs.declared.platform.Platform.{Platform}
 use Rattle.rules.specs.declared.records.Hart.{Hart}
 use Rattle.rules.specs.declared.records.Counter.{Counter}
 use Rattle.rules.proofs.Logic.{if-true, if-false, by_cases, below_or, clash, false-if, and_l, and_r, and-of}
-use Rattle.rules.proofs.Logic.{not-or, not-or-inv, not-off}
+use Rattle.rules.proofs.Logic.{not-or, not-or-inv, not-off, false-true}
 use Rattle.rules.proofs.SetLaws.{every-at, every_of}
 use Rattle.rules.proofs.Ascending.{all_in, all_of}
 
@@ -60,19 +61,20 @@ platform-agrees p = (there, back)
     there e =
         let e1 = and_r (enabled p p.boot) _ e in
         let e2 = and_r (every harts (λ h. not (hypervisor p h) || enabled p h)) _ e1 in
-        let e3 = and_r (leb p.used 8) _ e2 in
-        let e4 = and_r (leb p.asid 16) _ e3 in
-        let e5 = and_r (leb p.vmid 14) _ e4 in
+        let limits = and_l (within_limits p) _ e2 in
+        let widths = and_r (leb p.used 8) _ limits in
         record {
           boot = and_l (enabled p p.boot) _ e;
           hypervisors = λ h y.
               not-or-inv (hypervisor p h) (enabled p h)
               (every-at (λ k. not (hypervisor p k) || enabled p k) harts h (has-under p.hypervisor h y)
               (and_l _ _ e1)) y;
-          ranges = leb-true p.used 8 (and_l _ _ e2);
-          asid = leb-true p.asid 16 (and_l _ _ e3);
-          vmid = leb-true p.vmid 14 (and_l _ _ e4);
-          used = λ r m. (range-agrees (width p) r).0 (all_in (range_accepted (width p)) (used_ranges p) e5 m);
+          ranges = leb-true p.used 8 (and_l _ _ limits);
+          asid = leb-true p.asid 16 (and_l _ _ widths);
+          vmid = leb-true p.vmid 14 (and_r (leb p.asid 16) _ widths);
+          used = λ r m.
+              (range-agrees (width p) r).0
+              (all_in (range_accepted (width p)) (used_ranges p) (and_r (within_limits p) _ e2) m);
         }
 
     back : PlatformAccepted p → platform_accepted p ≡ true
@@ -80,10 +82,9 @@ platform-agrees p = (there, back)
         and-of a.boot
         (and-of (every_of (λ h. not (hypervisor p h) || enabled p h) harts
         (λ h l. not-or (hypervisor p h) (enabled p h) (a.hypervisors h)))
-        (and-of (le-leb p.used 8 a.ranges)
-        (and-of (le-leb p.asid 16 a.asid)
-        (and-of (le-leb p.vmid 14 a.vmid)
-        (all_of (range_accepted (width p)) (used_ranges p) (λ r m. (range-agrees (width p) r).1 (a.used r m)))))))
+        (and-of
+        (and-of (le-leb p.used 8 a.ranges) (and-of (le-leb p.asid 16 a.asid) (le-leb p.vmid 14 a.vmid)))
+        (all_of (range_accepted (width p)) (used_ranges p) (λ r m. (range-agrees (width p) r).1 (a.used r m)))))
 
 -- ----- a hart's record
 
@@ -121,46 +122,40 @@ hart-agrees p h x = (there, back)
 
 -- ----- a counter
 
+unmapped : (o : Option ℕ) → is_some o ≡ false → o ≡ None
+unmapped None e = refl
+unmapped (Some k) e = absurd (false-true (sym e))
+
 blank-agrees : (c : Counter) → is_blank c ≡ true → c ≡ blank
 unfolding is_blank
 blank-agrees c e =
-    let e1 = and_r (not c.mapped) _ e in
-    let e2 = and_r (eqb c.code 0) _ e1 in
-    let m : c.mapped ≡ false = not-true _ (and_l _ _ e) in
-    let d : c.code ≡ 0 = eqb-true _ _ (and_l _ _ e1) in
-    let r : c.running ≡ false = not-true _ (and_l _ _ e2) in
-    let v : c.value ≡ 0 = eqb-true _ _ (and_r (not c.running) _ e2) in
-    λ i. record { mapped = m i; code = d i; running = r i; value = v i }
+    let e1 = and_r (not (is_some c.event)) _ e in
+    let m : c.event ≡ None = unmapped c.event (not-true _ (and_l _ _ e)) in
+    let r : c.running ≡ false = not-true _ (and_l _ _ e1) in
+    let v : c.value ≡ 0 = eqb-true _ _ (and_r (not c.running) _ e1) in
+    λ i. record { event = m i; running = r i; value = v i }
 
 pub blank-fine : CounterFine blank
-blank-fine = record { codes = λ e. zero-le; runs = λ e. e; canonical = λ e. refl }
+blank-fine = record { codes = λ k e. absurd (none-some k e); runs = λ e. e }
 
 -- of an enabled hart's counter
-on-there : (c : Counter) → (when c.mapped then leb c.code last_code else (not c.running && eqb c.code 0)) ≡ true
-    → CounterFine c
-on-there c e =
-    by_cases c.mapped
-    (λ m. record {
-      codes = λ _. leb-true c.code last_code (sym (if-true _ _ m) ∙ e);
-      runs = λ _. m;
-      canonical = λ n. absurd (clash m n);
-    })
-    (λ m.
-    let u = sym (if-false _ _ m) ∙ e in
-    record {
-      codes = λ y. absurd (clash y m);
-      runs = λ r. absurd (clash r (not-true _ (and_l _ _ u)));
-      canonical = λ _. eqb-true _ _ (and_r (not c.running) _ u);
-    })
+on-there : (o : Option ℕ) (running : Bool) (v : ℕ) → event_well_formed o running ≡ true
+    → CounterFine (record { event = o; running = running; value = v })
+unfolding event_well_formed
+on-there (Some k) r v e = record {
+  codes = λ j q. subst (λ (n : ℕ). n ≤ last_code) (same_Some k j q) (leb-true k last_code e);
+  runs = λ _. refl;
+}
+on-there None r v e = record {
+  codes = λ j q. absurd (none-some j q);
+  runs = λ q. absurd (clash q (not-true _ e));
+}
 
-on-back : (c : Counter) → CounterFine c
-    → (when c.mapped then leb c.code last_code else (not c.running && eqb c.code 0)) ≡ true
-on-back c f =
-    by_cases c.mapped
-    (λ m. if-true _ _ m ∙ le-leb c.code last_code (f.codes m))
-    (λ m.
-    if-false _ _ m
-    ∙ and-of (not-off (false-if c.running (λ r. clash (f.runs r) m))) (eq-eqb _ _ (f.canonical m)))
+on-back : (o : Option ℕ) (running : Bool) (v : ℕ) → CounterFine (record { event = o; running = running; value = v })
+    → event_well_formed o running ≡ true
+unfolding event_well_formed
+on-back (Some k) r v f = le-leb k last_code (f.codes k refl)
+on-back None r v f = not-off (false-if r (λ q. false-true (f.runs q)))
 
 pub counter-agrees : (on : Bool) (c : Counter) → counter_well_formed on c ≡ true
     ↔ (CounterFine c × (on ≡ false → c ≡ blank))
@@ -170,7 +165,7 @@ counter-agrees on c = (there, back)
     there : counter_well_formed on c ≡ true → CounterFine c × (on ≡ false → c ≡ blank)
     there e =
         by_cases on
-        (λ y. (on-there c (sym (if-true _ _ y) ∙ e), λ n. absurd (clash y n)))
+        (λ y. (on-there c.event c.running c.value (sym (if-true _ _ y) ∙ e), λ n. absurd (clash y n)))
         (λ n.
         let same = blank-agrees c (sym (if-false _ _ n) ∙ e) in
         (rw same blank-fine, λ _. same))
@@ -178,7 +173,7 @@ counter-agrees on c = (there, back)
     back : CounterFine c × (on ≡ false → c ≡ blank) → counter_well_formed on c ≡ true
     back f =
         by_cases on
-        (λ y. if-true _ _ y ∙ on-back c f.0)
+        (λ y. if-true _ _ y ∙ on-back c.event c.running c.value f.0)
         (λ n. if-false _ _ n ∙ ap is_blank (f.1 n))
 
 -- ----- a hart's counters, and the tables

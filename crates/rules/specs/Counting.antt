@@ -1,6 +1,6 @@
 -- The promises on counters: what an event counts, and where. Each statement stands under its
 -- sentence.
-use Rattle.std.specs.Prelude.{◌≡◌, true, false, ◌↔◌, ℕ, ◌+◌, ◌^◌, ◌%◌, ◌<◌, ◌≤◌}
+use Rattle.std.specs.Prelude.{◌≡◌, true, false, ◌↔◌, ℕ, ◌+◌, ◌^◌, ◌%◌, ◌<◌, ◌≤◌, Some, None}
 use mathlib.Core.List.{[], ◌∷◌, Memᴰ}
 use Rattle.rules.specs.Sets.{bit, Ascending, all}
 use Rattle.rules.specs.Names.{counters}
@@ -19,12 +19,12 @@ use Rattle.rules.specs.declared.records.Counter.{Counter}
 -- "An event adds one, going from 2^64 - 1 to 0, to every running counter of that hart mapped to its
 -- code", and to no other
 pub record CountsExactly (e : ℕ) (c : Counter) : Type 0 where
-  pub adds : c.running ≡ true → c.mapped ≡ true → c.code ≡ e
+  pub adds : c.running ≡ true → c.event ≡ Some e
       → counted e c ≡ record
-      { mapped = c.mapped; code = c.code; running = c.running; value = (c.value + 1) % 2 ^ 64 }
+      { event = c.event; running = c.running; value = (c.value + 1) % 2 ^ 64 }
   pub stopped : c.running ≡ false → counted e c ≡ c
-  pub unmapped : c.mapped ≡ false → counted e c ≡ c
-  pub elsewhere : (c.code ≡ e → ⊥) → counted e c ≡ c
+  pub unmapped : c.event ≡ None → counted e c ≡ c
+  pub elsewhere : (c.event ≡ Some e → ⊥) → counted e c ≡ c
 
 -- of every event code and every counter
 abbrev pub EventsAddOne : Type 0

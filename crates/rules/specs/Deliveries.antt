@@ -3,13 +3,14 @@
 use mathlib.Core.List.{[], ◌∷◌, List, map, Memᴰ}
 use Rattle.std.specs.Prelude.{◌≡◌, true, false, ◌↔◌, ℕ, ◌+◌, ◌<◌, ◌≤◌, drop, length, take}
 use Rattle.rules.specs.Tables.{hart_at, well_formed, state_of, own_at, Tables}
-use Rattle.rules.specs.Names.{HSM, STARTED, action_memory, invalid_address, invalid_param}
-use Rattle.rules.specs.Names.{last_reported, not_supported, STOP_PENDING, STOPPED, IPI}
+use Rattle.rules.specs.Names.{HSM, STARTED, action_memory}
+use Rattle.rules.specs.Names.{last_reported, STOP_PENDING, STOPPED, IPI}
 use Rattle.rules.specs.Names.{RFENCE, harts, interrupt_kind, fence_kind, interrupt_sent}
 use Rattle.rules.specs.Machine.{Operation, completion, waking, event, call, reply}
 use Rattle.rules.specs.Replies.{actions_of, enter, front_of, memory_after, words_of, Reply}
 use Rattle.rules.specs.Replies.{accepted, failed, Done, did}
-use Rattle.rules.specs.Fences.{hypervisors_fit, id_valid, range_valid, Fence, function_of}
+use Rattle.rules.specs.Fences.{hypervisors_fit, id_valid, range_valid, function_of}
+use Rattle.rules.specs.declared.actions.Fence.{Fence}
 use Rattle.rules.specs.Sets.{bit, ones, Ascending}
 use Rattle.rules.specs.Platform.{width, enabled}
 use Rattle.rules.specs.Masks.{selected, selection_fits, reached, action_for}
@@ -17,6 +18,8 @@ use Rattle.rules.specs.Events.{sent_event, operands_of, start_in, size_in, id_in
 use Rattle.rules.specs.declared.platform.Platform.{Platform}
 use Rattle.rules.specs.declared.records.Hart.{Hart}
 use Rattle.rules.specs.declared.answers.Registers.{Registers}
+use Rattle.rules.specs.declared.answers.Error.TheVariants.{InvalidAddress, InvalidParam}
+use Rattle.rules.specs.declared.answers.Error.TheVariants.{NotSupported}
 
 -- ----- masks: "A hart mask reaches exactly the harts that the rules name."
 
@@ -85,7 +88,7 @@ pub record CanCall (p : Platform) (t : Tables) (room h : ℕ) : Type 0 where
 -- "any selected number not enabled gives -3": nothing else stops an interrupt
 pub record InterruptAnswered (p : Platform) (r : Reply) (q : Registers) : Type 0 where
   pub accepts : accepted r ≡ true ↔ selection_fits p q.a0 q.a1 ≡ true
-  pub no_harts : selection_fits p q.a0 q.a1 ≡ false → r ≡ failed invalid_param
+  pub no_harts : selection_fits p q.a0 q.a1 ≡ false → r ≡ failed InvalidParam
 
 -- of every interrupt of a caller that can call
 abbrev pub InterruptsAccepted : Type 0
@@ -104,18 +107,18 @@ pub record FenceFits (p : Platform) (f : Fence) (q : Registers) : Type 0 where
 -- the reply r to a fence: accepted if all four fit, else by the first that does not
 pub record FenceAnswered (p : Platform) (f : Fence) (r : Reply) (q : Registers) : Type 0 where
   pub accepts : accepted r ≡ true ↔ FenceFits p f q
-  pub no_harts : selection_fits p q.a0 q.a1 ≡ false → r ≡ failed invalid_param
+  pub no_harts : selection_fits p q.a0 q.a1 ≡ false → r ≡ failed InvalidParam
   pub no_id : selection_fits p q.a0 q.a1 ≡ true
-      → id_valid p (function_of f) (id_in (operands_of f) q) ≡ false → r ≡ failed invalid_param
+      → id_valid p (function_of f) (id_in (operands_of f) q) ≡ false → r ≡ failed InvalidParam
   pub no_hypervisor : selection_fits p q.a0 q.a1 ≡ true
       → id_valid p (function_of f) (id_in (operands_of f) q) ≡ true
       → hypervisors_fit p (function_of f) (selected p q.a0 q.a1) ≡ false
-      → r ≡ failed not_supported
+      → r ≡ failed NotSupported
   pub no_range : selection_fits p q.a0 q.a1 ≡ true
       → id_valid p (function_of f) (id_in (operands_of f) q) ≡ true
       → hypervisors_fit p (function_of f) (selected p q.a0 q.a1) ≡ true
       → range_valid (width p) (start_in (operands_of f) q) (size_in (operands_of f) q) ≡ false
-      → r ≡ failed invalid_address
+      → r ≡ failed InvalidAddress
 
 -- of every fence of a caller that can call
 abbrev pub FencesAccepted : Type 0

@@ -5,9 +5,10 @@ use Rattle.rules.specs.Choice.{when◌then◌else◌}
 use Rattle.rules.specs.Sets.{bit, every, those, numbers, first, keep, all, any}
 use Rattle.rules.specs.Names.{IPI, RFENCE, HSM, PMU, success, not_supported, invalid_param}
 use Rattle.rules.specs.Names.{invalid_address, already_available, action_memory}
+use Rattle.rules.specs.Answers.{error_number, refusal_number}
 use Rattle.rules.specs.Platform.{has, enabled, hypervisor, used_ranges, lies_in, valid_address}
 use Rattle.rules.specs.Platform.{range_accepted, platform_accepted}
-use Rattle.rules.specs.Tables.{hart_at, own_at, counter_at, fresh, is_idle, is_blank}
+use Rattle.rules.specs.Tables.{event_well_formed, hart_at, own_at, counter_at, fresh, is_idle, is_blank}
 use Rattle.rules.specs.Tables.{hart_well_formed, counter_well_formed, shaped, hart_row_well_formed}
 use Rattle.rules.specs.Tables.{tables_well_formed, well_formed}
 use Rattle.rules.specs.Replies.{view, Reply, refused, failed, did, moves, plain, counted}
@@ -72,8 +73,8 @@ pub data Shown : Type 0 where
 
 -- what a reply shows
 unfoldable pub shown_by : Reply → Shown
-shown_by (refused k) = H k
-shown_by (failed e) = shows e 0 []
+shown_by (refused k) = H (refusal_number k)
+shown_by (failed e) = shows (error_number e) 0 []
 shown_by (did d) = shows success d.value (map (λ (a : Action). a.target) d.actions)
 
 -- an edge: the enabled harts, what came before, the operation, and what it has to show
@@ -147,7 +148,7 @@ edges =
 
 -- what the rules show for each edge, all definitions opened
 unfoldable pub computed : List Edge → List Shown
-unfolding when◌then◌else◌ bit every those numbers first keep all any has enabled hypervisor used_ranges lies_in valid_address range_accepted platform_accepted hart_at own_at counter_at fresh is_idle is_blank hart_well_formed counter_well_formed shaped hart_row_well_formed tables_well_formed well_formed view moves plain counted count_at tell_one tell commit selected selection_fits is_reached reached send_to sent_code id_valid hypervisors_fit range_valid interrupt_reply fence_reply done_of suspend_of start_reply suspend_reply goes_on done_reply counter_set is_counter each is_mapped is_running not_running is_event chosen configured configure_chosen configure_reply begun counter_start_reply can_read read_reply event_reply interrupt_request fence_request hart_request counter_request request life_reply plain_reply request_reply enabled_reply checked_reply reply after shown_by
+unfolding when◌then◌else◌ bit every those numbers first keep all any has enabled hypervisor used_ranges lies_in valid_address range_accepted platform_accepted hart_at own_at counter_at fresh is_idle is_blank hart_well_formed event_well_formed counter_well_formed shaped hart_row_well_formed tables_well_formed well_formed view moves plain counted count_at tell_one tell commit selected selection_fits is_reached reached send_to sent_code id_valid hypervisors_fit range_valid interrupt_reply fence_reply done_of suspend_of start_reply suspend_reply goes_on done_reply counter_set is_counter each is_mapped is_running not_running is_event chosen configured configure_chosen configure_reply begun counter_start_reply can_read read_reply event_reply interrupt_request fence_request hart_request counter_request request life_reply plain_reply request_reply enabled_reply checked_reply reply after shown_by
 computed es = map
     (λ (e : Edge). shown_by
     (reply (platform_of e.harts)

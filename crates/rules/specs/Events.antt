@@ -2,19 +2,21 @@
 -- counted. In specs/ only the promises cite this file.
 use Rattle.std.specs.Prelude.{List, [], ◌∷◌, ℕ, zero, suc, eqb}
 use Rattle.rules.specs.Choice.{when◌then◌else◌}
-use Rattle.rules.specs.Fences.{Fence, fence_i, sfence_vma, sfence_vma_asid}
-use Rattle.rules.specs.Fences.{hfence_gvma_vmid, hfence_gvma, hfence_vvma_asid, hfence_vvma}
+use Rattle.rules.specs.declared.actions.Fence.{Fence}
+use Rattle.rules.specs.declared.actions.Fence.TheVariants.{FenceI, SfenceVma, SfenceVmaAsid}
+use Rattle.rules.specs.declared.actions.Fence.TheVariants.{HfenceGvmaVmid, HfenceGvma}
+use Rattle.rules.specs.declared.actions.Fence.TheVariants.{HfenceVvmaAsid, HfenceVvma}
 use Rattle.rules.specs.declared.answers.Registers.{Registers}
 
 -- the code that the standard gives to each event "Sent .. request to other hart"
 abbrev pub sent_event : Fence → ℕ
-sent_event fence_i = 8
-sent_event sfence_vma = 10
-sent_event sfence_vma_asid = 12
-sent_event hfence_gvma = 14
-sent_event hfence_gvma_vmid = 16
-sent_event hfence_vvma = 18
-sent_event hfence_vvma_asid = 20
+sent_event FenceI = 8
+sent_event SfenceVma = 10
+sent_event SfenceVmaAsid = 12
+sent_event HfenceGvma = 14
+sent_event HfenceGvmaVmid = 16
+sent_event HfenceVvma = 18
+sent_event HfenceVvmaAsid = 20
 
 -- what each fence hands on of its arguments: FENCE.I nothing, those with an ASID or VMID that too
 pub data Operands : Type 0 where
@@ -22,13 +24,13 @@ pub data Operands : Type 0 where
 
 -- which of these each fence has
 abbrev pub operands_of : Fence → Operands
-operands_of fence_i = nothing
-operands_of sfence_vma = range
-operands_of sfence_vma_asid = range_and_id
-operands_of hfence_gvma_vmid = range_and_id
-operands_of hfence_gvma = range
-operands_of hfence_vvma_asid = range_and_id
-operands_of hfence_vvma = range
+operands_of FenceI = nothing
+operands_of SfenceVma = range
+operands_of SfenceVmaAsid = range_and_id
+operands_of HfenceGvmaVmid = range_and_id
+operands_of HfenceGvma = range
+operands_of HfenceVvmaAsid = range_and_id
+operands_of HfenceVvma = range
 
 -- "absent words 0; otherwise the arguments unaltered"
 abbrev pub start_in : Operands → Registers → ℕ

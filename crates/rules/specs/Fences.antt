@@ -1,30 +1,36 @@
 -- Interrupts and remote fences. "Fences FID 0 to 6: FENCE.I, SFENCE.VMA, SFENCE.VMA ASID,
 -- HFENCE.GVMA VMID, HFENCE.GVMA, HFENCE.VVMA ASID, HFENCE.VVMA."
 use Rattle.std.specs.Prelude.{Bool, true, not, ◌&&◌, ◌||◌, List, [], ◌∷◌, ℕ, ◌+◌, ◌^◌, ltb, leb}
-use Rattle.std.specs.Prelude.{eqb, get_or}
+use Rattle.std.specs.Prelude.{◌≡◌, ◌≤◌, eqb, get_or, Result, Ok, Err}
+use Rattle.rules.specs.declared.answers.Error.{Error}
 use Rattle.rules.specs.Choice.{when◌then◌else◌}
 use Rattle.rules.specs.Sets.{ones, all}
-use Rattle.rules.specs.Names.{interrupt_kind, fence_kind, interrupt_sent, not_supported}
-use Rattle.rules.specs.Names.{invalid_param, invalid_address}
+use Rattle.rules.specs.Names.{interrupt_kind, fence_kind, interrupt_sent}
 use Rattle.rules.specs.Platform.{width, hypervisor}
 use Rattle.rules.specs.Masks.{selected, selection_fits, reached, send_to}
 use Rattle.rules.specs.Replies.{View, Plain, fails}
 use Rattle.rules.specs.declared.platform.Platform.{Platform}
-
--- the seven fences by name, and the function of each
-pub data Fence : Type 0 where
-  fence_i sfence_vma sfence_vma_asid : Fence
-  hfence_gvma_vmid hfence_gvma hfence_vvma_asid hfence_vvma : Fence
+use Rattle.rules.specs.declared.actions.Fence.{Fence}
+use Rattle.rules.specs.declared.actions.Fence.TheVariants.{FenceI, SfenceVma, SfenceVmaAsid}
+use Rattle.rules.specs.declared.actions.Fence.TheVariants.{HfenceGvmaVmid, HfenceGvma}
+use Rattle.rules.specs.declared.actions.Fence.TheVariants.{HfenceVvmaAsid, HfenceVvma}
+use Rattle.rules.specs.declared.answers.Error.TheVariants.{NotSupported, InvalidParam}
+use Rattle.rules.specs.declared.answers.Error.TheVariants.{InvalidAddress}
 
 -- "Fences FID 0 to 6": the function of each
 abbrev pub function_of : Fence → ℕ
-function_of fence_i = 0
-function_of sfence_vma = 1
-function_of sfence_vma_asid = 2
-function_of hfence_gvma_vmid = 3
-function_of hfence_gvma = 4
-function_of hfence_vvma_asid = 5
-function_of hfence_vvma = 6
+function_of FenceI = 0
+function_of SfenceVma = 1
+function_of SfenceVmaAsid = 2
+function_of HfenceGvmaVmid = 3
+function_of HfenceGvma = 4
+function_of HfenceVvmaAsid = 5
+function_of HfenceVvma = 6
+
+-- what a number is taken for: the fence whose function it is, or -2 where there is none
+abbrev pub FenceGiven : (fid : ℕ) → Result Fence Error → Type 0
+FenceGiven fid (Ok f) = function_of f ≡ fid
+FenceGiven fid (Err e) = (e ≡ NotSupported) × (7 ≤ fid)
 
 -- "Sent codes: .. fences FID 0 to 6: 8, 10, 12, 16, 14, 20, 18."
 abbrev pub sent_codes : List ℕ
@@ -54,7 +60,7 @@ range_valid w s n = (eqb s 0 && eqb n 0) || (eqb n (ones w) || leb (s + n) (2 ^ 
 -- an interrupt: "any selected number not enabled gives -3"; "2 interrupt (three zeros)"
 unfoldable pub interrupt_reply : Platform → View → (mask base : ℕ) → Plain
 interrupt_reply p v m base =
-    when not (selection_fits p m base) then fails invalid_param
+    when not (selection_fits p m base) then fails InvalidParam
     else send_to interrupt_kind 0 0 0 interrupt_sent (reached p v.harts m base)
 
 -- "Order: harts (-3), ASID or VMID below 2^width (-3), hypervisor extension on every selected hart
@@ -62,8 +68,8 @@ interrupt_reply p v m base =
 -- unaltered". "The caller's VMID for FID 5 and 6 is the host's to add (house)."
 unfoldable pub fence_reply : Platform → View → (fid mask base start size id : ℕ) → Plain
 fence_reply p v f m base s n i =
-    when not (selection_fits p m base) then fails invalid_param
-    else when not (id_valid p f i) then fails invalid_param
-    else when not (hypervisors_fit p f (selected p m base)) then fails not_supported
-    else when not (range_valid (width p) s n) then fails invalid_address
+    when not (selection_fits p m base) then fails InvalidParam
+    else when not (id_valid p f i) then fails InvalidParam
+    else when not (hypervisors_fit p f (selected p m base)) then fails NotSupported
+    else when not (range_valid (width p) s n) then fails InvalidAddress
     else send_to (fence_kind + f) s n i (sent_code f) (reached p v.harts m base)

@@ -2,6 +2,7 @@
 pub mod Choice
 pub mod Sets
 pub mod Names
+pub mod Answers
 pub mod Platform
 pub mod Tables
 pub mod Replies
@@ -10,6 +11,7 @@ pub mod Base
 pub mod Fences
 pub mod Harts
 pub mod Counters
+pub mod Ids
 pub mod Requests
 pub mod Machine
 pub mod Lives

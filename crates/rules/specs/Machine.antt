@@ -5,11 +5,11 @@
 --   after, after_all   the tables after an operation, and after a history of them
 --   fresh_over         lent tables made fresh
 --   fresh_answer       the answer to that
-use Rattle.std.specs.Prelude.{Bool, false, not, List, [], ◌∷◌, ℕ, ltb, eqb}
+use Rattle.std.specs.Prelude.{Bool, false, not, List, [], ◌∷◌, ℕ, ltb, eqb, Ok, Err}
+use Rattle.rules.specs.Answers.{done, Answer}
 use Rattle.rules.specs.Platform.{platform_accepted, enabled}
 use Rattle.rules.specs.Tables.{fresh, Tables, state_of, well_formed}
-use Rattle.rules.specs.Names.{success, action_memory, counters, STARTED, not_supported}
-use Rattle.rules.specs.Names.{not_well_formed, not_enabled, not_started, short_memory}
+use Rattle.rules.specs.Names.{action_memory, counters, STARTED}
 use Rattle.rules.specs.Choice.{when◌then◌else◌}
 use Rattle.rules.specs.Replies.{View, view, Reply, refused, Plain, fails, gives, plain}
 use Rattle.rules.specs.Replies.{commit}
@@ -26,10 +26,12 @@ use Rattle.rules.specs.Requests.{base_architecture, base_machine, base_probe, in
 use Rattle.rules.specs.Requests.{hart_status, counter_count, counter_details, counter_configure}
 use Rattle.rules.specs.Requests.{counter_start, counter_stop, counter_read, counter_read_high}
 use Rattle.rules.specs.Requests.{unknown}
-use Rattle.rules.specs.declared.answers.Answer.{Answer}
-use Rattle.rules.specs.declared.answers.Answer.TheVariants.{Pair, Refused}
+use Rattle.rules.specs.declared.answers.Denial.TheVariants.{Refused}
 use Rattle.rules.specs.declared.platform.Platform.{Platform}
 use Rattle.rules.specs.declared.answers.Registers.{Registers}
+use Rattle.rules.specs.declared.answers.Error.TheVariants.{NotSupported}
+use Rattle.rules.specs.declared.answers.Refusal.TheVariants.{NotWellFormed, NotEnabled, NotStarted}
+use Rattle.rules.specs.declared.answers.Refusal.TheVariants.{ShortMemory}
 
 -- ----- the reply to a call of the running hart h
 
@@ -58,7 +60,7 @@ plain_reply p v (counter_start base m flags x) = counter_start_reply p v.own bas
 plain_reply p v (counter_stop base m flags) = counter_stop_reply p v.own base m flags
 plain_reply p v (counter_read i) = read_reply v.own i
 plain_reply p v (counter_read_high i) = read_high_reply v.own i
-plain_reply p v unknown = fails not_supported
+plain_reply p v unknown = fails NotSupported
 
 -- to any call
 unfoldable pub request_reply : Platform → View → (h : ℕ) → Request → Reply
@@ -91,7 +93,7 @@ is_short (event h e) = false
 -- H3, H5 and H6, and what else there is to answer
 unfoldable pub enabled_reply : Platform → View → Operation → Reply
 enabled_reply p v (call room h r) =
-    when not (eqb (state_of v.harts h) STARTED) then refused not_started
+    when not (eqb (state_of v.harts h) STARTED) then refused NotStarted
     else request_reply p v h (request r)
 enabled_reply p v (completion room h) = done_reply v h
 enabled_reply p v (waking room h) = wake_reply v h
@@ -100,13 +102,13 @@ enabled_reply p v (event h e) = event_reply v e
 -- on tables that are well formed: H4, H2, then the rest
 unfoldable pub checked_reply : Platform → Tables → Operation → Reply
 checked_reply p t op =
-    when is_short op then refused short_memory
-    else when not (enabled p (hart_of op)) then refused not_enabled
+    when is_short op then refused ShortMemory
+    else when not (enabled p (hart_of op)) then refused NotEnabled
     else enabled_reply p (view t (hart_of op)) op
 
 -- "Host refusals come instead of a pair, tested in this order": H1, H4, H2, H3, H5, H6
 unfoldable pub reply : Platform → Tables → Operation → Reply
-reply p t op = when not (well_formed p t) then refused not_well_formed else checked_reply p t op
+reply p t op = when not (well_formed p t) then refused NotWellFormed else checked_reply p t op
 
 -- ----- the tables after
 
@@ -128,5 +130,5 @@ fresh_over p t = when not (platform_accepted p) then t else fresh p
 -- the answer to that
 unfoldable pub fresh_answer : Platform → Answer
 fresh_answer p =
-    when not (platform_accepted p) then Refused not_well_formed
-    else Pair success 0 false 0
+    when not (platform_accepted p) then Err (Refused NotWellFormed)
+    else Ok (done 0 false 0)

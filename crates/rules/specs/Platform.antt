@@ -6,11 +6,12 @@
 --   valid_address p a     an address that a hart may be sent to
 --   platform_accepted p   no ground of H1 holds against it; `PlatformAccepted` says the same
 use Rattle.std.specs.Prelude.{◌≡◌, Bool, true, false, not, ◌&&◌, ◌||◌, ℕ, ◌+◌, ◌-◌, ◌^◌, ◌%◌, ◌<◌}
-use Rattle.std.specs.Prelude.{◌≤◌, ltb, leb, eqb, take}
+use Rattle.std.specs.Prelude.{◌≤◌, ltb, leb, eqb, take, Option, Some, None}
 use mathlib.Core.List.{List, Memᴰ}
 use Rattle.rules.specs.Choice.{when◌then◌else◌}
 use Rattle.rules.specs.Sets.{bit, every, all, any}
 use Rattle.rules.specs.Names.{harts, max_ranges, max_asid_width, max_vmid_width}
+use Rattle.rules.specs.declared.ids.HartId.{HartId}
 use Rattle.rules.specs.declared.platform.HartSet.{HartSet}
 use Rattle.rules.specs.declared.platform.Range.{Range}
 use Rattle.rules.specs.declared.platform.Platform.{Platform}
@@ -22,6 +23,11 @@ has s h = when ltb h 64 then bit s.low h else when ltb h harts then bit s.high (
 -- hart h is enabled
 unfoldable pub enabled : Platform → ℕ → Bool
 enabled p h = has p.enabled h
+
+-- hart h, if it is enabled
+abbrev pub HartGiven : Platform → (h : ℕ) → Option HartId → Type 0
+HartGiven p h (Some x) = (enabled p h ≡ true) × (x.number ≡ h)
+HartGiven p h None = enabled p h ≡ false
 
 -- hart h has the hypervisor extension
 unfoldable pub hypervisor : Platform → ℕ → Bool
@@ -49,15 +55,17 @@ valid_address p a = eqb (a % 2) 0 && any (lies_in a) (used_ranges p)
 unfoldable pub range_accepted : ℕ → Range → Bool
 range_accepted w r = ltb 0 r.length && leb (r.base + r.length) (2 ^ w)
 
+-- no "count or width is over its limit"
+abbrev pub within_limits : Platform → Bool
+within_limits p = leb p.used max_ranges && (leb p.asid max_asid_width && leb p.vmid max_vmid_width)
+
 -- none of the grounds holds
 unfoldable pub platform_accepted : Platform → Bool
 platform_accepted p =
     enabled p p.boot
     && (every harts (λ h. not (hypervisor p h) || enabled p h)
-    && (leb p.used max_ranges
-    && (leb p.asid max_asid_width
-    && (leb p.vmid max_vmid_width
-    && all (range_accepted (width p)) (used_ranges p)))))
+    && (within_limits p
+    && all (range_accepted (width p)) (used_ranges p)))
 
 -- the same as a statement
 pub record PlatformAccepted (p : Platform) : Type 0 where

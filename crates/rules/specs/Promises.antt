@@ -1,10 +1,11 @@
 -- THE PROMISES: here, and in Refusals, Deliveries and Counting, stands every statement that is
 -- proved of the rules, each under the sentence it stands for. Read these four files and the
 -- definitions they cite; proofs/Theorems has a theorem of the same name for each.
-use Rattle.std.specs.Prelude.{◌≡◌, true, false, List, [], ◌∷◌, ◌++◌, map, ◌↔◌, ◌%◌, ◌^◌, ℕ}
+use Rattle.std.specs.Prelude.{◌≡◌, true, false, List, [], ◌∷◌, ◌++◌, map, ◌↔◌, ◌%◌, ◌^◌, ℕ, Ok}
 use Rattle.rules.specs.Lives.{suspend, Event, Life, row, events, Reading, placed}
 use Rattle.rules.specs.Names.{STOPPED, SUSPEND_PENDING, non_retentive_type, retentive_type}
-use Rattle.rules.specs.Names.{STARTED, HSM, success}
+use Rattle.rules.specs.Names.{STARTED, HSM}
+use Rattle.rules.specs.Answers.{done}
 use Rattle.rules.specs.Tables.{blank, counter_at, idle, hart_at, Tables, state_of, own_at}
 use Rattle.rules.specs.Tables.{fresh, tables_well_formed, TablesWellFormed, well_formed}
 use Rattle.rules.specs.Machine.{Operation, call, hart_of, reply, after}
@@ -15,7 +16,6 @@ use Rattle.rules.specs.Edges.{Edge, edges, computed}
 use Rattle.rules.specs.declared.records.Hart.{Hart}
 use Rattle.rules.specs.declared.platform.Platform.{Platform}
 use Rattle.rules.specs.declared.answers.Registers.{Registers}
-use Rattle.rules.specs.declared.answers.Answer.TheVariants.{Pair}
 
 -- ----- demand 3
 
@@ -29,7 +29,7 @@ pub record LivesOf (p : Platform) (ops : List Operation) (h : ℕ) : Type 0 wher
   pub reported : (r : Reading (row_now p ops h)) (room k : ℕ) (q : Registers) → q.a7 ≡ HSM
       → q.a6 ≡ 2 → q.a0 ≡ h
       → ready p (tables_now p ops) (call room k q) ≡ true
-      → answer_of (reply p (tables_now p ops) (call room k q)) ≡ Pair success (placed r) false 0
+      → answer_of (reply p (tables_now p ops) (call room k q)) ≡ Ok (done (placed r) false 0)
   -- "An event that fits is accepted if its action memory is long enough and, for a call, its caller
   -- is running and its type and address pass; one that does not fit is refused." (demand 3)
   pub accepts : (e : Event) (op : Operation) → event_of op ≡ h does e ∷ []

@@ -1,6 +1,8 @@
 -- The promises on refusals, errors and answers. Each statement stands under its sentence.
 use mathlib.Core.List.{Memᴰ, List, [], ◌∷◌, map}
-use Rattle.std.specs.Prelude.{Bool, ◌&&◌, ◌||◌, true, false, ◌≡◌, ◌<◌, ℕ, length, eqb, ℤ}
+use Rattle.std.specs.Prelude.{Bool, ◌&&◌, ◌||◌, true, false, ◌≡◌, ◌<◌, ℕ, length, eqb, ℤ, None}
+use Rattle.std.specs.Prelude.{Ok, Err}
+use Rattle.rules.specs.Answers.{done}
 use Rattle.rules.specs.Requests.{LifeRequest, PlainRequest, Request, base_architecture}
 use Rattle.rules.specs.Requests.{base_implementation, base_implementation_version, base_machine}
 use Rattle.rules.specs.Requests.{base_probe, base_vendor, base_version, counter_configure}
@@ -10,9 +12,7 @@ use Rattle.rules.specs.Requests.{hart_stop, hart_suspend, interrupt, life, other
 use Rattle.rules.specs.Requests.{unknown}
 use Rattle.rules.specs.Names.{last_reported, STARTED, HSM, success, not_supported}
 use Rattle.rules.specs.Names.{invalid_param, invalid_address, already_available}
-use Rattle.rules.specs.Names.{already_started, already_stopped, no_shared_memory, not_well_formed}
-use Rattle.rules.specs.Names.{not_enabled, not_started, short_memory, state_forbids}
-use Rattle.rules.specs.Names.{not_reportable}
+use Rattle.rules.specs.Names.{already_started, already_stopped, no_shared_memory}
 use Rattle.rules.specs.Tables.{hart_at, Tables, state_of, well_formed}
 use Rattle.rules.specs.Machine.{event, waking, completion, is_short, Operation, call, hart_of}
 use Rattle.rules.specs.Machine.{reply, after}
@@ -20,9 +20,17 @@ use Rattle.rules.specs.Harts.{done_of, wake_of}
 use Rattle.rules.specs.Platform.{enabled}
 use Rattle.rules.specs.Replies.{Done, Reply, refused, failed, did, accepted, answer_of}
 use Rattle.rules.specs.Replies.{actions_of, memory_after, register}
-use Rattle.rules.specs.declared.answers.Answer.TheVariants.{Refused, Pair}
-use Rattle.rules.specs.declared.records.Next.TheVariants.{Forbidden}
+use Rattle.rules.specs.declared.answers.Error.{Error}
+use Rattle.rules.specs.declared.answers.Refusal.{Refusal}
+use Rattle.rules.specs.declared.answers.Denial.TheVariants.{Refused, Failed}
 use Rattle.rules.specs.declared.platform.Platform.{Platform}
+use Rattle.rules.specs.declared.answers.Error.TheVariants.{NotSupported, InvalidParam}
+use Rattle.rules.specs.declared.answers.Error.TheVariants.{InvalidAddress, AlreadyAvailable}
+use Rattle.rules.specs.declared.answers.Error.TheVariants.{AlreadyStarted, AlreadyStopped}
+use Rattle.rules.specs.declared.answers.Error.TheVariants.{NoSharedMemory}
+use Rattle.rules.specs.declared.answers.Refusal.TheVariants.{NotWellFormed, NotEnabled, NotStarted}
+use Rattle.rules.specs.declared.answers.Refusal.TheVariants.{ShortMemory, StateForbids}
+use Rattle.rules.specs.declared.answers.Refusal.TheVariants.{NotReportable}
 
 -- "Every refusal, error pairs included, leaves the tables and all action memory unaltered; the
 -- front part handed back is then empty."
@@ -40,24 +48,24 @@ RefusalsAlterNothing = (p : Platform) (t : Tables) (op : Operation)
 abbrev pub LastRefusal : Platform → Tables → Operation → Type 0
 -- "a call from a hart not STARTED"
 LastRefusal p t (call room h q) = (state_of t.harts h ≡ STARTED → ⊥)
-    → reply p t (call room h q) ≡ refused not_started
+    → reply p t (call room h q) ≡ refused NotStarted
 -- "completion or wake that the hart's state does not allow"
-LastRefusal p t (completion room h) = done_of (hart_at t.harts h) ≡ Forbidden
-    → reply p t (completion room h) ≡ refused state_forbids
-LastRefusal p t (waking room h) = wake_of (hart_at t.harts h) ≡ Forbidden
-    → reply p t (waking room h) ≡ refused state_forbids
+LastRefusal p t (completion room h) = done_of (hart_at t.harts h) ≡ None
+    → reply p t (completion room h) ≡ refused StateForbids
+LastRefusal p t (waking room h) = wake_of (hart_at t.harts h) ≡ None
+    → reply p t (waking room h) ≡ refused StateForbids
 -- "reported firmware event code over 5"
-LastRefusal p t (event h e) = last_reported < e → reply p t (event h e) ≡ refused not_reportable
+LastRefusal p t (event h e) = last_reported < e → reply p t (event h e) ≡ refused NotReportable
 
 -- each refusal is given if its test fails and those before it pass
 pub record HostRefusals (p : Platform) (t : Tables) (op : Operation) : Type 0 where
   -- "platform or tables not well formed"
-  pub h1 : well_formed p t ≡ false → reply p t op ≡ refused not_well_formed
+  pub h1 : well_formed p t ≡ false → reply p t op ≡ refused NotWellFormed
   -- "action memory under 640 words (calls, completions, wakes)"
-  pub h4 : well_formed p t ≡ true → is_short op ≡ true → reply p t op ≡ refused short_memory
+  pub h4 : well_formed p t ≡ true → is_short op ≡ true → reply p t op ≡ refused ShortMemory
   -- "the hart number is not enabled or is over 127"
   pub h2 : well_formed p t ≡ true → is_short op ≡ false → enabled p (hart_of op) ≡ false
-      → reply p t op ≡ refused not_enabled
+      → reply p t op ≡ refused NotEnabled
   pub last : well_formed p t ≡ true → is_short op ≡ false → enabled p (hart_of op) ≡ true
       → LastRefusal p t op
 
@@ -67,13 +75,13 @@ HostRefusalsInOrder = (p : Platform) (t : Tables) (op : Operation) → HostRefus
 
 -- "A refusal gives its listed number": the errors that each request may be answered, in the order
 -- of its checks
-abbrev pub life_errors : LifeRequest → List ℤ
-life_errors (hart_start k a o) = invalid_param ∷ already_available ∷ invalid_address ∷ []
+abbrev pub life_errors : LifeRequest → List Error
+life_errors (hart_start k a o) = InvalidParam ∷ AlreadyAvailable ∷ InvalidAddress ∷ []
 life_errors hart_stop = []
-life_errors (hart_suspend y a o) = invalid_param ∷ invalid_address ∷ []
+life_errors (hart_suspend y a o) = InvalidParam ∷ InvalidAddress ∷ []
 
 -- those of the requests that alter no hart record
-abbrev pub plain_errors : PlainRequest → List ℤ
+abbrev pub plain_errors : PlainRequest → List Error
 plain_errors base_version = []
 plain_errors base_implementation = []
 plain_errors base_implementation_version = []
@@ -81,41 +89,41 @@ plain_errors (base_probe e) = []
 plain_errors base_vendor = []
 plain_errors base_architecture = []
 plain_errors base_machine = []
-plain_errors (interrupt m base) = invalid_param ∷ []
-plain_errors (fence f m base s n i) = invalid_param ∷ not_supported ∷ invalid_address ∷ []
-plain_errors (hart_status k) = invalid_param ∷ []
+plain_errors (interrupt m base) = InvalidParam ∷ []
+plain_errors (fence f m base s n i) = InvalidParam ∷ NotSupported ∷ InvalidAddress ∷ []
+plain_errors (hart_status k) = InvalidParam ∷ []
 plain_errors counter_count = []
-plain_errors (counter_details i) = invalid_param ∷ []
-plain_errors (counter_configure base m flags e d) = invalid_param ∷ not_supported ∷ []
-plain_errors (counter_start base m flags x) = invalid_param ∷ no_shared_memory ∷ already_started ∷ []
-plain_errors (counter_stop base m flags) = invalid_param ∷ no_shared_memory ∷ already_stopped ∷ []
-plain_errors (counter_read i) = invalid_param ∷ []
-plain_errors (counter_read_high i) = invalid_param ∷ []
-plain_errors unknown = not_supported ∷ []
+plain_errors (counter_details i) = InvalidParam ∷ []
+plain_errors (counter_configure base m flags e d) = InvalidParam ∷ NotSupported ∷ []
+plain_errors (counter_start base m flags x) = InvalidParam ∷ NoSharedMemory ∷ AlreadyStarted ∷ []
+plain_errors (counter_stop base m flags) = InvalidParam ∷ NoSharedMemory ∷ AlreadyStopped ∷ []
+plain_errors (counter_read i) = InvalidParam ∷ []
+plain_errors (counter_read_high i) = InvalidParam ∷ []
+plain_errors unknown = NotSupported ∷ []
 
 -- those of any request
-abbrev pub request_errors : Request → List ℤ
+abbrev pub request_errors : Request → List Error
 request_errors (life q) = life_errors q
 request_errors (other q) = plain_errors q
 
 -- completions, wakes and events are never answered an error
-abbrev pub errors_of : Operation → List ℤ
+abbrev pub errors_of : Operation → List Error
 errors_of (call room h q) = request_errors (request q)
 errors_of (completion room h) = []
 errors_of (waking room h) = []
 errors_of (event h e) = []
 
 -- the host refusals of each operation, in the order of their tests
-abbrev pub refusals_of : Operation → List ℕ
-refusals_of (call room h q) = not_well_formed ∷ short_memory ∷ not_enabled ∷ not_started ∷ []
-refusals_of (completion room h) = not_well_formed ∷ short_memory ∷ not_enabled ∷ state_forbids ∷ []
-refusals_of (waking room h) = not_well_formed ∷ short_memory ∷ not_enabled ∷ state_forbids ∷ []
-refusals_of (event h e) = not_well_formed ∷ not_enabled ∷ not_reportable ∷ []
+abbrev pub refusals_of : Operation → List Refusal
+refusals_of (call room h q) = NotWellFormed ∷ ShortMemory ∷ NotEnabled ∷ NotStarted ∷ []
+refusals_of (completion room h) = NotWellFormed ∷ ShortMemory ∷ NotEnabled ∷ StateForbids ∷ []
+refusals_of (waking room h) = NotWellFormed ∷ ShortMemory ∷ NotEnabled ∷ StateForbids ∷ []
+refusals_of (event h e) = NotWellFormed ∷ NotEnabled ∷ NotReportable ∷ []
 
 -- a reply that is listed for this operation
 pub data Listed (op : Operation) : Reply → Type 0 where
-  listed-refusal : {k : ℕ} → Memᴰ k (refusals_of op) → Listed op (refused k)
-  listed-error : {e : ℤ} → Memᴰ e (errors_of op) → Listed op (failed e)
+  listed-refusal : {k : Refusal} → Memᴰ k (refusals_of op) → Listed op (refused k)
+  listed-error : {e : Error} → Memᴰ e (errors_of op) → Listed op (failed e)
   no-refusal : {d : Done} → Listed op (did d)
 
 -- of every operation
@@ -149,10 +157,10 @@ ParkedExactly = (p : Platform) (t : Tables) (op : Operation) (d : Done) → repl
 -- "Host refusals come instead of a pair"; "a1 is 0 on every error"; what was done is answered by 0,
 -- its value, its mark, and the length of its actions
 pub record AnswerExact (r : Reply) : Type 0 where
-  pub refusal : (k : ℕ) → r ≡ refused k → answer_of r ≡ Refused k
-  pub error : (e : ℤ) → r ≡ failed e → answer_of r ≡ Pair e 0 false 0
+  pub refusal : (k : Refusal) → r ≡ refused k → answer_of r ≡ Err (Refused k)
+  pub error : (e : Error) → r ≡ failed e → answer_of r ≡ Err (Failed e)
   pub done : (d : Done) → r ≡ did d
-      → answer_of r ≡ Pair success d.value d.parked (length d.actions)
+      → answer_of r ≡ Ok (done d.value d.parked (length d.actions))
 
 -- of every operation
 abbrev pub AnswersExact : Type 0

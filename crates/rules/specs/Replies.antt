@@ -9,14 +9,17 @@
 --   memory_after   the action memory after a reply
 use Rattle.std.specs.Prelude.{Bool, true, false, ◌&&◌, List, [], ◌∷◌, ◌++◌, map, ℕ, suc, ◌+◌, ◌-◌}
 use Rattle.std.specs.Prelude.{◌^◌, ◌%◌, eqb, ℤ, pos, negsuc, get_or, set, length, drop}
+use Rattle.std.specs.Prelude.{Option, Some, None, Ok, Err}
 use Rattle.rules.specs.Choice.{when◌then◌else◌}
 use Rattle.rules.specs.Names.{success, enter_kind}
+use Rattle.rules.specs.Answers.{error_number, done, Answer}
 use Rattle.rules.specs.Tables.{Tables, own_at}
 use Rattle.rules.specs.declared.records.Hart.{Hart}
 use Rattle.rules.specs.declared.records.Counter.{Counter}
 use Rattle.rules.specs.declared.actions.Action.{Action}
-use Rattle.rules.specs.declared.answers.Answer.{Answer}
-use Rattle.rules.specs.declared.answers.Answer.TheVariants.{Pair, Refused}
+use Rattle.rules.specs.declared.answers.Error.{Error}
+use Rattle.rules.specs.declared.answers.Refusal.{Refusal}
+use Rattle.rules.specs.declared.answers.Denial.TheVariants.{Refused, Failed}
 
 -- what an operation of a hart is shown
 pub record View : Type 0 where
@@ -40,8 +43,8 @@ pub record Done : Type 0 where
 
 -- Hk, an error pair, or what was done
 pub data Reply : Type 0 where
-  refused : (k : ℕ) → Reply
-  failed : (error : ℤ) → Reply
+  refused : (k : Refusal) → Reply
+  failed : (error : Error) → Reply
   did : Done → Reply
 
 -- accepted: neither a refusal nor an error pair
@@ -68,7 +71,7 @@ moves v k acts hs = did
 
 -- what such a call answers
 pub data Plain : Type 0 where
-  fails : (error : ℤ) → Plain
+  fails : (error : Error) → Plain
   gives : (value : ℕ) → (own : List Counter) → Plain
   sends : List Action → (code : ℕ) → (told : List ℕ) → Plain
 
@@ -99,13 +102,17 @@ plain v (sends acts c ks) = did
 -- ----- events: "An event adds one, going from 2^64 - 1 to 0, to every running counter of that hart
 -- mapped to its code."
 
+-- it is mapped, and to this code
+abbrev pub is_mapped_to : (code : ℕ) → Option ℕ → Bool
+is_mapped_to e None = false
+is_mapped_to e (Some k) = eqb k e
+
 -- the counter c after an event of this code
 unfoldable pub counted : (code : ℕ) → Counter → Counter
 counted e c =
-    when c.running && (c.mapped && eqb c.code e)
+    when c.running && is_mapped_to e c.event
     then record {
-      mapped = c.mapped;
-      code = c.code;
+      event = c.event;
       running = c.running;
       value = (c.value + 1) % 2 ^ 64;
     }
@@ -144,17 +151,19 @@ unfoldable pub register : ℤ → ℕ
 register (pos n) = n
 register (negsuc n) = 2 ^ 64 - suc n
 
--- "a1 is 0 on every error"; a pair carries the number of actions
+-- what was done carries the number of actions
 unfoldable pub answer_of : Reply → Answer
-answer_of (refused k) = Refused k
-answer_of (failed e) = Pair e 0 false 0
-answer_of (did d) = Pair success d.value d.parked (length d.actions)
+answer_of (refused k) = Err (Refused k)
+answer_of (failed e) = Err (Failed e)
+answer_of (did d) = Ok (done d.value d.parked (length d.actions))
 
 -- "Where an answer is an enum, there is a definition that gives this paper's number and values for
--- each of its cases.": what a0 and a1 hold for a pair; Hk gives none. "No other register changes."
+-- each of its cases.": what a0 and a1 hold, "a1 is 0 on every error"; Hk gives no pair. "No other
+-- register changes."
 unfoldable pub pair_of : Answer → List ℕ
-pair_of (Pair e v k n) = register e ∷ v ∷ []
-pair_of (Refused k) = []
+pair_of (Ok s) = register success ∷ s.value ∷ []
+pair_of (Err (Failed e)) = register (error_number e) ∷ 0 ∷ []
+pair_of (Err (Refused k)) = []
 
 -- "the front part handed back is then empty"
 unfoldable pub actions_of : Reply → List Action

@@ -12,7 +12,7 @@
 -- the first, if any
 use Rattle.std.specs.Prelude.{Bool, true, false, ◌&&◌, ◌||◌, List, [], ◌∷◌, ◌++◌, map, ℕ, zero, suc}
 use Rattle.std.specs.Prelude.{◌+◌, ◌-◌, ◌^◌, ◌/◌, ◌%◌, ◌≤◌, eqb, ltb, leb}
-use Rattle.std.proofs.Math.Option.{Option, none, some}
+use Rattle.std.specs.Prelude.{Option, Some, None}
 use Rattle.rules.specs.Choice.{when◌then◌else◌}
 
 -- bit i of m is set
@@ -53,8 +53,8 @@ Ascending = Above 0
 
 -- the first of a list, if any
 unfoldable pub first : List ℕ → Option ℕ
-first [] = none
-first (x ∷ xs) = some x
+first [] = None
+first (x ∷ xs) = Some x
 
 module _ {A : Type 0} where
   unfoldable pub keep : (A → Bool) → List A → List A

@@ -9,7 +9,7 @@
 --   tables_well_formed p t   no ground of H1 holds against them; `TablesWellFormed` says the same
 --                            as a statement
 use Rattle.std.specs.Prelude.{◌≡◌, Bool, true, false, not, ◌&&◌, List, [], ℕ, ◌≤◌, ◌<◌, leb, eqb}
-use Rattle.std.specs.Prelude.{get_or, set, length, replicate}
+use Rattle.std.specs.Prelude.{get_or, set, length, replicate, Option, Some, None, is_some}
 use Rattle.rules.specs.Choice.{when◌then◌else◌}
 use Rattle.rules.specs.Sets.{every}
 use Rattle.rules.specs.Names.{harts, counters, last_code, STARTED, STOPPED, RESUME_PENDING}
@@ -29,7 +29,7 @@ idle s = record { state = s; retentive = true; address = 0; opaque = 0 }
 
 -- "unmapped, stopped, zero"
 abbrev pub blank : Counter
-blank = record { mapped = false; code = 0; running = false; value = 0 }
+blank = record { event = None; running = false; value = 0 }
 
 -- the record x in another state, its sleep note kept
 abbrev pub in_state : Hart → ℕ → Hart
@@ -70,17 +70,19 @@ is_idle x = eqb x.state STOPPED && (x.retentive && (eqb x.address 0 && eqb x.opa
 
 -- unmapped, stopped, zero
 unfoldable pub is_blank : Counter → Bool
-is_blank c = not c.mapped && (eqb c.code 0 && (not c.running && eqb c.value 0))
+is_blank c = not (is_some c.event) && (not c.running && eqb c.value 0)
 
 -- of a hart that is enabled or not
 unfoldable pub hart_well_formed : Bool → Hart → Bool
 hart_well_formed on x = when on then leb x.state RESUME_PENDING else is_idle x
 
--- the code of an unmapped counter is written 0: there is one form of unmapped
+-- "a mapped code is 0 to 21; a running counter is mapped"
+unfoldable pub event_well_formed : Option ℕ → (running : Bool) → Bool
+event_well_formed (Some e) running = leb e last_code
+event_well_formed None running = not running
+
 unfoldable pub counter_well_formed : Bool → Counter → Bool
-counter_well_formed on c =
-    when on then (when c.mapped then leb c.code last_code else (not c.running && eqb c.code 0))
-    else is_blank c
+counter_well_formed on c = when on then event_well_formed c.event c.running else is_blank c
 
 -- a record for each of 128 harts, and eight counters for each
 unfoldable pub shaped : Tables → Bool
@@ -105,9 +107,8 @@ well_formed p t = platform_accepted p && tables_well_formed p t
 
 -- of a counter
 pub record CounterFine (c : Counter) : Type 0 where
-  pub codes : c.mapped ≡ true → c.code ≤ last_code
-  pub runs : c.running ≡ true → c.mapped ≡ true
-  pub canonical : c.mapped ≡ false → c.code ≡ 0
+  pub codes : (e : ℕ) → c.event ≡ Some e → e ≤ last_code
+  pub runs : c.running ≡ true → is_some c.event ≡ true
 
 -- of the hart h with the record x
 pub record HartFine (p : Platform) (h : ℕ) (x : Hart) : Type 0 where

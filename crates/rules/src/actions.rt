@@ -1,14 +1,17 @@
 // What another hart has to do, and the events that it counts as.
 ghost use Rattle.std.specs.Prelude.{◌≡◌, ◌+◌, ◌<◌};
-ghost use Rattle.rules.specs.Names.{interrupt_kind, fence_kind};
+ghost use Rattle.rules.specs.Names.{interrupt_kind, fence_kind, last_code};
 ghost use Rattle.rules.specs.Replies.{enter};
 ghost use Rattle.rules.specs.Masks.{action_for};
-ghost use Rattle.rules.specs.Fences.{sent_code};
+ghost use Rattle.rules.specs.Fences.{function_of, sent_code, FenceGiven};
 
+use crate::answers::Error;
+use crate::ids::EventCode;
 use crate::numbers::{ENTER, FENCE, INTERRUPT};
 
-// "An action is five words: target, kind, start, size, id."
-#[derive(Clone, Copy)]
+// "An action is five words: target, kind, start, size, id." The kind is a number, as it lies in the
+// host's memory.
+#[derive(Clone, Copy, Debug, PartialEq, Eq)]
 pub struct Action {
     pub target: u64,
     pub kind: u64,
@@ -45,16 +48,68 @@ impl Action {
     }
 
     // "3 to 9 fences FID 0 to 6 (absent words 0; otherwise the arguments unaltered)"
-    pub fn fence(fid: u64, target: u64, start: u64, size: u64, id: u64) -> Self
-        requires { fid < 7 }
-        ensures { result ≡ action_for (fence_kind + fid) start size id target }
+    pub fn fence(fence: Fence, target: u64, start: u64, size: u64, id: u64) -> Self
+        ensures { result ≡ action_for (fence_kind + function_of fence) start size id target }
     {
         Action {
             target,
-            kind: FENCE + fid,
+            kind: FENCE + fence.function(),
             start,
             size,
             id,
+        }
+    }
+}
+
+// "Fences FID 0 to 6", in the order of their functions.
+#[derive(Clone, Copy, Debug, PartialEq, Eq)]
+pub enum Fence {
+    FenceI,
+    SfenceVma,
+    SfenceVmaAsid,
+    HfenceGvmaVmid,
+    HfenceGvma,
+    HfenceVvmaAsid,
+    HfenceVvma,
+}
+
+impl Fence {
+    // The function that asks for it.
+    pub fn function(self) -> u64
+        ensures is { result ≡ function_of self }
+        ensures small { result < 7 }
+    {
+        self as u64
+    }
+
+    // The code of its sent event.
+    #[tactic(auto, using(crate::proofs::SentLaws::sent_small))]
+    pub fn sent(self) -> EventCode
+        ensures code { result.number ≡ sent_code (function_of self) }
+        ensures received_next { result.number < last_code }
+    {
+        EventCode {
+            number: sent_code(self.function()),
+        }
+    }
+}
+
+// "Any other EID or FID .. answers -2."
+impl TryFrom<u64> for Fence {
+    type Error = Error;
+
+    ghost try_from_gives = { λ fid r. FenceGiven fid r };
+
+    fn try_from(fid: u64) -> Result<Fence, Error> {
+        match fid {
+            0 => Ok(Fence::FenceI),
+            1 => Ok(Fence::SfenceVma),
+            2 => Ok(Fence::SfenceVmaAsid),
+            3 => Ok(Fence::HfenceGvmaVmid),
+            4 => Ok(Fence::HfenceGvma),
+            5 => Ok(Fence::HfenceVvmaAsid),
+            6 => Ok(Fence::HfenceVvma),
+            _ => Err(Error::NotSupported),
         }
     }
 }
@@ -66,8 +121,5 @@ const SENT: [u64; 7] = [8, 10, 12, 16, 14, 20, 18];
 pub fn sent_code(fid: u64) -> u64
     ensures { result ≡ sent_code fid }
 {
-    if fid < 7 {
-        return SENT[fid as usize];
-    }
-    0
+    if fid < 7 { SENT[fid as usize] } else { 0 }
 }

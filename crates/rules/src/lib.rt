@@ -3,6 +3,7 @@
 #![tactic(auto)]
 
 pub mod numbers; // every number of document 01 under its name
+pub mod ids; // numbers that their type keeps in range
 pub mod platform; // the platform record
 pub mod records; // a hart's record and a counter
 pub mod answers; // the registers of a call, what is answered, the register's value of an error

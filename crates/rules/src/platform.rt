@@ -1,34 +1,36 @@
-// The platform record: what a module is made of, by value.
-ghost use Rattle.std.specs.Prelude.{◌≡◌, not, ◌||◌, ◌<◌, ltb, take};
-ghost use Rattle.rules.specs.Choice.{when◌then◌else◌};
+// The platform record: what a module is made of.
+ghost use Rattle.std.specs.Prelude.{◌≡◌, not, ◌||◌, ◌<◌};
 ghost use Rattle.rules.specs.Names.{harts};
-ghost use Rattle.rules.specs.Sets.{bit, every, all, any};
-ghost use Rattle.rules.specs.Platform.{has, enabled, hypervisor};
-ghost use Rattle.rules.specs.Platform.{lies_in, valid_address, range_accepted, platform_accepted};
+ghost use Rattle.rules.specs.Sets.{bit, every};
+ghost use Rattle.rules.specs.Platform.{has, enabled, hypervisor, used_ranges};
+ghost use Rattle.rules.specs.Platform.{lies_in, valid_address, range_accepted, within_limits};
+ghost use Rattle.rules.specs.Platform.{platform_accepted, HartGiven};
 
+use crate::ids::HartId;
 use crate::numbers::{HARTS, MAX_ASID_WIDTH, MAX_RANGES, MAX_VMID_WIDTH};
 
 // A set of harts as two words of bits: bit h of low is hart h, bit h of high is hart 64 + h.
-#[derive(Clone, Copy)]
+#[derive(Clone, Copy, Debug, PartialEq, Eq)]
 pub struct HartSet {
     pub low: u64,
     pub high: u64,
 }
 
 // The addresses from base to base + length - 1.
-#[derive(Clone, Copy)]
+#[derive(Clone, Copy, Debug, PartialEq, Eq)]
 pub struct Range {
     pub base: u64,
     pub length: u64,
 }
 
-#[derive(Clone, Copy)]
+#[derive(Clone, Copy, Debug, PartialEq, Eq)]
 pub struct Platform {
     pub enabled: HartSet,
     // those with the hypervisor extension
     pub hypervisor: HartSet,
     pub boot: u64,
-    // how many of the ranges are used; the others are never looked at
+    // How many of the ranges are used; the others are never looked at. A count beside an array, since
+    // the host lays the record out, and a count over 8 is a ground of H1 (`platform_accepted`).
     pub used: u64,
     pub ranges: [Range; 8],
     // the widths of ASID and VMID in bits
@@ -55,23 +57,18 @@ impl HartSet {
     pub fn has(self, h: u64) -> bool
         ensures { result ≡ has self h }
     {
-        if h < 64 {
-            return bit_of(self.low, h);
+        match h {
+            0..64 => bit_of(self.low, h),
+            64..HARTS => bit_of(self.high, h - 64),
+            _ => false,
         }
-        if h < HARTS {
-            return bit_of(self.high, h - 64);
-        }
-        false
     }
 
     // Whether it has each hart of another set, tested on the words.
     pub fn covers(self, other: HartSet) -> bool
         ensures { result ≡ every harts (λ h. not (has other h) || has self h) }
     {
-        if other.low & self.low != other.low {
-            return false;
-        }
-        other.high & self.high == other.high
+        other.low & self.low == other.low && other.high & self.high == other.high
     }
 }
 
@@ -80,111 +77,70 @@ impl Range {
     pub fn holds(self, a: u64) -> bool
         ensures { result ≡ lies_in a self }
     {
-        if a < self.base {
-            return false;
-        }
-        a - self.base < self.length
+        a >= self.base && a - self.base < self.length
     }
 
     // Whether it is neither of "length zero" nor "runs past 2^64".
     pub fn accepted(self) -> bool
         ensures { result ≡ range_accepted 64 self }
     {
-        if self.length == 0 {
-            return false;
-        }
-        self.length - 1 <= u64::MAX - self.base
+        self.length > 0 && self.length - 1 <= u64::MAX - self.base
     }
-}
-
-// How many of the eight ranges are looked at.
-fn looked_at(used: u64) -> usize
-    ensures { result ≡ when ltb used 8 then used else 8 }
-{
-    if used < MAX_RANGES {
-        return used as usize;
-    }
-    MAX_RANGES as usize
-}
-
-// Whether an address lies in one of the used ranges.
-fn lies_in_one(ranges: [Range; 8], used: u64, a: u64) -> bool
-    ensures { result ≡ any (lies_in a) (take used ranges) }
-{
-    let n = looked_at(used);
-    for i in 0..n {
-        let range = ranges[i];
-        if range.holds(a) {
-            return true;
-        }
-    }
-    false
-}
-
-// Whether no used range "has length zero or runs past 2^64".
-fn all_accepted(ranges: [Range; 8], used: u64) -> bool
-    ensures { result ≡ all (range_accepted 64) (take used ranges) }
-{
-    let n = looked_at(used);
-    for i in 0..n {
-        let range = ranges[i];
-        if !range.accepted() {
-            return false;
-        }
-    }
-    true
 }
 
 impl Platform {
-    // Whether hart h is enabled.
-    pub fn is_enabled(self, h: u64) -> bool
-        ensures { result ≡ enabled self h }
+    // The ranges that are used.
+    fn used_ranges(&self) -> &[Range]
+        ensures { result.now ≡ used_ranges self.now }
     {
-        let set = self.enabled;
-        set.has(h)
+        &self.ranges[..self.used.min(MAX_RANGES) as usize]
+    }
+
+    // Whether hart h is enabled.
+    pub fn is_enabled(&self, h: u64) -> bool
+        ensures { result ≡ enabled self.now h }
+    {
+        self.enabled.has(h)
+    }
+
+    // Hart h, if it is enabled: "the hart number is not enabled or is over 127" is H2.
+    pub fn hart(&self, h: u64) -> Option<HartId>
+        ensures { HartGiven self.now h result }
+    {
+        if self.is_enabled(h) {
+            return Some(HartId { number: h });
+        }
+        None
     }
 
     // Whether hart h has the hypervisor extension.
-    pub fn has_hypervisor(self, h: u64) -> bool
-        ensures { result ≡ hypervisor self h }
+    pub fn has_hypervisor(&self, h: u64) -> bool
+        ensures { result ≡ hypervisor self.now h }
     {
-        let set = self.hypervisor;
-        set.has(h)
+        self.hypervisor.has(h)
     }
 
     // Whether a hart may be sent to an address: "it is even and lies in a range".
-    pub fn valid_address(self, a: u64) -> bool
-        ensures { result ≡ valid_address self a }
+    pub fn valid_address(&self, a: u64) -> bool
+        ensures { result ≡ valid_address self.now a }
     {
-        if a % 2 != 0 {
-            return false;
-        }
-        let ranges = self.ranges;
-        lies_in_one(ranges, self.used, a)
+        a % 2 == 0 && self.used_ranges().iter().any(|range| range.holds(a))
+    }
+
+    // Whether no "count or width is over its limit".
+    fn within_limits(&self) -> bool
+        ensures { result ≡ within_limits self.now }
+    {
+        self.used <= MAX_RANGES && self.asid <= MAX_ASID_WIDTH && self.vmid <= MAX_VMID_WIDTH
     }
 
     // Whether no ground of H1 holds against it.
-    pub fn accepted(self) -> bool
-        ensures { result ≡ platform_accepted self }
+    pub fn accepted(&self) -> bool
+        ensures { result ≡ platform_accepted self.now }
     {
-        if !self.is_enabled(self.boot) {
-            return false;
-        }
-        let set = self.enabled;
-        let some = self.hypervisor;
-        if !set.covers(some) {
-            return false;
-        }
-        if self.used > MAX_RANGES {
-            return false;
-        }
-        if self.asid > MAX_ASID_WIDTH {
-            return false;
-        }
-        if self.vmid > MAX_VMID_WIDTH {
-            return false;
-        }
-        let ranges = self.ranges;
-        all_accepted(ranges, self.used)
+        self.is_enabled(self.boot)
+            && self.enabled.covers(self.hypervisor)
+            && self.within_limits()
+            && self.used_ranges().iter().all(|range| range.accepted())
     }
 }

@@ -8,8 +8,11 @@ use crate::numbers::{
     RESUME_PENDING, START_PENDING, STARTED, STOP_PENDING, STOPPED, SUSPEND_PENDING, SUSPENDED,
 };
 
-// "A hart record holds its state and a sleep note: retentive or not, address, opaque."
-#[derive(Clone, Copy)]
+// "A hart record holds its state and a sleep note: retentive or not, address, opaque." The state is
+// a number, not an enum: "state numbers as constants of their types", and tables in lent memory may
+// hold one over 6 (`tables_well_formed`). The note is three fields, not an Option: rows are told
+// apart by all three (`only_one`).
+#[derive(Clone, Copy, Debug, PartialEq, Eq)]
 pub struct Hart {
     pub state: u64,
     pub retentive: bool,
@@ -17,21 +20,12 @@ pub struct Hart {
     pub opaque: u64,
 }
 
-// A counter: whether it is mapped, to which code, whether it runs, and its value. The code of an
-// unmapped counter is written 0, so that there is one form of unmapped.
-#[derive(Clone, Copy)]
+// A counter: the event's code that it is mapped to, if any, whether it runs, and its value.
+#[derive(Clone, Copy, Debug, PartialEq, Eq)]
 pub struct Counter {
-    pub mapped: bool,
-    pub code: u64,
+    pub event: Option<u64>,
     pub running: bool,
     pub value: u64,
-}
-
-// The next record of a hart, or that its state does not allow the event.
-#[derive(Clone, Copy)]
-pub enum Next {
-    To(Hart),
-    Forbidden,
 }
 
 impl Hart {
@@ -39,60 +33,39 @@ impl Hart {
     pub fn in_state(self, state: u64) -> Hart
         ensures { result ≡ in_state self state }
     {
-        Hart {
-            state,
-            retentive: self.retentive,
-            address: self.address,
-            opaque: self.opaque,
-        }
+        Hart { state, ..self }
     }
 
     // "Done: 2 to 0, 3 to 1, 5 to 4, 6 to 0."
-    pub fn done(self) -> Next
+    pub fn done(self) -> Option<Hart>
         ensures { result ≡ done_of self }
     {
-        let s = self.state;
-        if s == START_PENDING {
-            return Next::To(self.in_state(STARTED));
+        match self.state {
+            START_PENDING | RESUME_PENDING => Some(self.in_state(STARTED)),
+            STOP_PENDING => Some(self.in_state(STOPPED)),
+            SUSPEND_PENDING => Some(self.in_state(SUSPENDED)),
+            _ => None,
         }
-        if s == STOP_PENDING {
-            return Next::To(self.in_state(STOPPED));
-        }
-        if s == SUSPEND_PENDING {
-            return Next::To(self.in_state(SUSPENDED));
-        }
-        if s == RESUME_PENDING {
-            return Next::To(self.in_state(STARTED));
-        }
-        Next::Forbidden
     }
 
     // "Wake: 4 to 6 only."
-    pub fn wake(self) -> Next
+    pub fn wake(self) -> Option<Hart>
         ensures { result ≡ wake_of self }
     {
-        let s = self.state;
-        if s == SUSPENDED {
-            return Next::To(self.in_state(RESUME_PENDING));
+        match self.state {
+            SUSPENDED => Some(self.in_state(RESUME_PENDING)),
+            _ => None,
         }
-        Next::Forbidden
     }
 
     // "An accepted suspend writes the sleep note (retentive, 0, 0 for type 0)"
     pub fn suspend(self, retentive: bool, address: u64, opaque: u64) -> Hart
         ensures { result ≡ suspend_of retentive address opaque }
     {
-        if retentive {
-            return Hart {
-                state: SUSPEND_PENDING,
-                retentive: true,
-                address: 0,
-                opaque: 0,
-            };
-        }
+        let (address, opaque) = if retentive { (0, 0) } else { (address, opaque) };
         Hart {
             state: SUSPEND_PENDING,
-            retentive: false,
+            retentive,
             address,
             opaque,
         }

@@ -1,10 +1,11 @@
 -- Laws of an event in a row, counter by counter: the way the loop goes.
 --   counted_one r i e     the row with counter i counted, if it runs and has the code e
 --   counted_to n r e      the row with its first n counters counted
-use Rattle.std.proofs.Common.{◌≡◌, ℕ, zero, suc, ◌+◌, ◌-◌, ◌/◌, ◌%◌, ◌^◌, ◌<◌, ◌≤◌, true, false, ◌&&◌, eqb, List, map, length, get_or, set, sym, refl, ap, ◌∙◌, subst, ap₂, ⊎_elim, le_of_suc-le-suc, not-suc-le-zero, mod-lt, eq-or-lt_of_le, arith, lit<, get_or-set_other, get_or-set_same, eq-eqb, ne_eqb, eqb-true}
+use Rattle.std.proofs.Common.{◌≡◌, ℕ, zero, suc, ◌+◌, ◌-◌, ◌/◌, ◌%◌, ◌^◌, ◌<◌, ◌≤◌, false, ◌&&◌, eqb, List, map, length, get_or, set, sym, refl, ap, ◌∙◌, subst, ap₂, ⊎_elim, le_of_suc-le-suc, not-suc-le-zero, mod-lt, eq-or-lt_of_le, arith, lit<, get_or-set_other, get_or-set_same, eq-eqb, ne_eqb, eqb-true}
 use borrow.Author.Tests.{eqb-false}
+use Rattle.std.specs.Prelude.{Some, None}
 use Rattle.rules.specs.Choice.{when◌then◌else◌}
-use Rattle.rules.specs.Replies.{counted}
+use Rattle.rules.specs.Replies.{is_mapped_to, counted}
 use Rattle.rules.specs.declared.records.Counter.{Counter}
 use Rattle.rules.proofs.Logic.{if-true, if-false, if-both, by_cases}
 use Rattle.store.specs.Rows.{byte, hart_in, counter_of, counter_in, counters_in, Fit, Held, Alters}
@@ -30,7 +31,7 @@ module _ (b e : ℕ) where
   unfolding next
   miss v l = if-false _ _ (ne_eqb b (e + 23) (λ q. omega arith))
 
-  stays : (c : Counter) → (c.running && (c.mapped && eqb c.code e)) ≡ false → counted e c ≡ c
+  stays : (c : Counter) → (c.running && is_mapped_to e c.event) ≡ false → counted e c ≡ c
   unfolding counted
   stays c q = if-false _ _ q
 
@@ -51,10 +52,10 @@ module _ (b e : ℕ) where
   counted_of v =
       kinds b (counted e (counter_of b v) ≡ counter_of b (next v))
       (λ q. let o = of_none b v q in
-      ap (counted e) o ∙ stays (record { mapped = false; code = 0; running = false; value = v }) refl ∙ sym o
+      ap (counted e) o ∙ stays (record { event = None; running = false; value = v }) refl ∙ sym o
       ∙ ap (counter_of b) (sym (miss v (omega arith))))
       (λ l m. let o = of-stopped b v l m in
-      ap (counted e) o ∙ stays (record { mapped = true; code = b - 1; running = false; value = v }) refl ∙ sym o
+      ap (counted e) o ∙ stays (record { event = Some (b - 1); running = false; value = v }) refl ∙ sym o
       ∙ ap (counter_of b) (sym (miss v m)))
       (λ l. hit v l)
 

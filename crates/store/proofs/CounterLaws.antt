@@ -2,6 +2,7 @@
 --   with_counter r i c    the row r with counter i put anew
 use Rattle.std.proofs.Common.{◌≡◌, ℕ, ◌+◌, ◌-◌, ◌^◌, ◌<◌, ◌≤◌, Bool, true, false, List, get_or, set, sym, refl, ap, ◌∙◌, subst, ap₂, arith, length-set, get_or-set_other, get_or-set_same, ext_get_or}
 use native.Mathlib.Decide.{ℕ_discrete}
+use Rattle.std.specs.Prelude.{Option, Some, None, is_some}
 use Rattle.rules.specs.Choice.{when◌then◌else◌}
 use Rattle.rules.specs.Tables.{blank, CounterFine}
 use Rattle.rules.specs.declared.records.Counter.{Counter}
@@ -14,32 +15,29 @@ use Rattle.store.proofs.RowLaws.{fit-set, eight, of_none, of-stopped, of-running
 module _ (c : Counter) (k : CounterFine c) where
   pub control-back : counter_of (control_of c) c.value ≡ c
   unfolding when◌then◌else◌
-  control-back = go c.mapped c.running refl refl
+  control-back = go c.event c.running refl refl
     where
-      go : (m r : Bool) → c.mapped ≡ m → c.running ≡ r → counter_of (control_of c) c.value ≡ c
-      go true true p q =
-          rw (p, q) (of-running (c.code + 23) c.value (omega arith)
-          ∙ ap (λ (n : ℕ). record { mapped = true; code = n; running = true; value = c.value })
-          (let z : c.code + 23 - 23 ≡ c.code = omega arith in z))
-      go true false p q =
-          let l = k.codes p in
-          rw (p, q) (of-stopped (c.code + 1) c.value (omega arith) (omega arith)
-          ∙ ap (λ (n : ℕ). record { mapped = true; code = n; running = false; value = c.value })
-          (let z : c.code + 1 - 1 ≡ c.code = omega arith in z))
-      go false true p q = absurd (false-true (sym p ∙ k.runs q))
-      go false false p q =
-          rw (p, q) (of_none 0 c.value refl
-          ∙ ap (λ (n : ℕ). record { mapped = false; code = n; running = false; value = c.value })
-          (sym (k.canonical p)))
+      go : (o : Option ℕ) (r : Bool) → c.event ≡ o → c.running ≡ r → counter_of (control_of c) c.value ≡ c
+      go (Some e) true p q =
+          rw (p, q) (of-running (e + 23) c.value (omega arith)
+          ∙ ap (λ (n : ℕ). record { event = Some n; running = true; value = c.value })
+          (let z : e + 23 - 23 ≡ e = omega arith in z))
+      go (Some e) false p q =
+          let l = k.codes e p in
+          rw (p, q) (of-stopped (e + 1) c.value (omega arith) (omega arith)
+          ∙ ap (λ (n : ℕ). record { event = Some n; running = false; value = c.value })
+          (let z : e + 1 - 1 ≡ e = omega arith in z))
+      go None true p q = absurd (false-true (sym (ap is_some p) ∙ k.runs q))
+      go None false p q = rw (p, q) (of_none 0 c.value refl)
 
   pub control-small : control_of c ≤ 44
   unfolding when◌then◌else◌
-  control-small = go c.mapped c.running refl refl
+  control-small = go c.event c.running refl refl
     where
-      go : (m r : Bool) → c.mapped ≡ m → c.running ≡ r → control_of c ≤ 44
-      go true true p q = let l = k.codes p in rw (p, q) (omega arith)
-      go true false p q = let l = k.codes p in rw (p, q) (omega arith)
-      go false r p q = rw p (omega arith)
+      go : (o : Option ℕ) (r : Bool) → c.event ≡ o → c.running ≡ r → control_of c ≤ 44
+      go (Some e) true p q = let l = k.codes e p in rw (p, q) (omega arith)
+      go (Some e) false p q = let l = k.codes e p in rw (p, q) (omega arith)
+      go None r p q = rw p (omega arith)
 
 unfoldable pub with_counter : List ℕ → ℕ → Counter → List ℕ
 with_counter r i c = set (set r 3 (with_byte (get_or r 3 0) i (control_of c))) (4 + i) c.value

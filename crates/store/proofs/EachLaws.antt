@@ -1,12 +1,13 @@
 -- Laws of a change of each counter of a set, one after the other: what it leaves at each, and that it keeps counters
 -- well formed.
-use Rattle.std.proofs.Common.{◌≡◌, ℕ, zero, suc, ◌+◌, ◌<◌, ◌≤◌, Bool, true, not, ◌&&◌, ◌||◌, List, [], ◌∷◌, ◌++◌, get_or, set, sym, refl, ap, ◌∙◌, subst, add-one, arith, get_or-set_other}
-use mathlib.Core.Bool.{and-true}
+use Rattle.std.proofs.Common.{◌≡◌, ℕ, zero, suc, ◌+◌, ◌<◌, ◌≤◌, true, not, ◌||◌, List, [], ◌∷◌, ◌++◌, get_or, set, sym, refl, ap, ◌∙◌, subst, add-one, arith, get_or-set_other}
+use Rattle.std.specs.Prelude.{Option, Some}
+use Rattle.std.proofs.lemmas.Option.{none-some}
 use Rattle.rules.specs.Sets.{bit, those, all}
 use Rattle.rules.specs.Tables.{blank, counter_at, CounterFine}
 use Rattle.rules.specs.Counters.{each, begun, ended, is_mapped}
 use Rattle.rules.specs.declared.records.Counter.{Counter}
-use Rattle.rules.proofs.Logic.{if-true, if-false, if-both, by_cases, false-true, and_l, not-or-inv}
+use Rattle.rules.proofs.Logic.{if-true, if-false, if-both, by_cases, false-true, not-or-inv}
 use Rattle.rules.proofs.SetLaws.{every-at, those-hit, those-miss}
 use Rattle.store.specs.Rows.{counters_in, Fit, Alters}
 use Rattle.store.specs.Sets.{at_one, KeptAt, Kept, Fine, set_of}
@@ -72,7 +73,7 @@ module _ (cs : List Counter) (fine : Fine cs) (s : ℕ) where
       let k = fine i in
       let m = not-or-inv (bit s i) (is_mapped cs i)
       (every-at (λ i. not (bit s i) || is_mapped cs i) 8 i l (sym (all-those 8 (is_mapped cs) (bit s)) ∙ e)) q in
-      record { codes = k.codes; runs = λ _. m; canonical = k.canonical }
+      record { codes = k.codes; runs = λ _. m }
 
   pub ended-kept : (flags : ℕ) → Kept (ended flags) s cs
   unfolding ended
@@ -80,9 +81,7 @@ module _ (cs : List Counter) (fine : Fine cs) (s : ℕ) where
       let c = counter_at cs i in
       let k = fine i in
       record {
-        codes =
-            λ e. if-both (λ (n : ℕ). n ≤ 21) (bit flags 0) (λ b. omega arith) (λ b. k.codes (and_l c.mapped _ e));
+        codes = λ e. if-both (λ (o : Option ℕ). o ≡ Some e → e ≤ 21) (bit flags 0) (λ _ n. absurd (none-some e n))
+            (λ _. k.codes e);
         runs = λ e. absurd (false-true e);
-        canonical = λ e. if-both (λ (n : ℕ). n ≡ 0) (bit flags 0) (λ b. refl)
-            (λ b. k.canonical (sym (ap (λ (x : Bool). c.mapped && not x) b ∙ and-true c.mapped) ∙ e));
       }

@@ -1,19 +1,17 @@
 -- What a change of the tables leaves: of the same hart, of another, and of a set's match.
-use Rattle.std.proofs.Common.{◌≡◌, ℕ, ◌<◌, ◌≤◌, ◌||◌, List, [], ◌∷◌, length, get_or, sym, refl, ap, ◌∙◌, arith, get_or-set_other, get_or-set_same}
-use mathlib.Core.List.{Memᴰ}
-use mathlib.Core.Option.{Option, none, some}
+use Rattle.std.proofs.Common.{◌≡◌, ℕ, ◌<◌, List, [], length, get_or, sym, ap, ◌∙◌, get_or-set_other, get_or-set_same}
+use Rattle.std.specs.Prelude.{Option, Some, None}
+use Rattle.std.specs.Option.{option_map}
 use lib.ListN.{length-map}
 use lib.Seq.{set-get_or}
 use Rattle.rules.specs.Names.{harts, counters, STOPPED}
-use Rattle.rules.specs.Sets.{bit, keep, first}
 use Rattle.rules.specs.Tables.{Tables, idle, hart_at, own_at}
-use Rattle.rules.specs.Counters.{not_running, chosen}
+use Rattle.rules.specs.Counters.{chosen}
+use Rattle.rules.specs.declared.ids.CounterId.{CounterId}
 use Rattle.rules.specs.declared.records.Hart.{Hart}
 use Rattle.rules.specs.declared.records.Counter.{Counter}
-use Rattle.rules.proofs.SetLaws.{those-only}
-use Rattle.rules.proofs.Ascending.{keep-only}
 use Rattle.store.specs.Rows.{hart_in, counters_in}
-use Rattle.store.specs.Sets.{number_of, set_of}
+use Rattle.store.specs.Sets.{set_of}
 use Rattle.store.specs.Seen.{seen, Shaped, size_of, put_hart, put_own}
 use Rattle.store.proofs.RowLaws.{eight}
 use Rattle.store.proofs.ViewLaws.{own-seen}
@@ -30,7 +28,7 @@ module _ (t : List (List ℕ)) (k : Shaped t) where
   seen-counters = length-map t counters_in ∙ size_of t k
 
   pub seen-own : (h : ℕ) → h < harts → length (own_at (seen t) h) ≡ counters
-  seen-own h l = ap length (own-seen t k h l) ∙ eight (get_or t h [])
+  seen-own h l = ap length (own-seen t (size_of t k) h l) ∙ eight (get_or t h [])
 
 -- ----- one hart's record put anew, and its counters
 
@@ -62,24 +60,12 @@ module _ (s : Tables) (h : ℕ) where
   hart-put-back =
       ap (λ (xs : List Hart). record { harts = xs; counters = s.counters }) (set-get_or s.harts h (idle STOPPED))
 
--- ----- the match of a set: a number below 8 is the counter chosen, and 8 is none
+-- ----- the match of a set: the counter chosen, if any
 
-number-some : (o : Option ℕ) → number_of o < counters → o ≡ some (number_of o)
-number-some none l = absurd (omega arith)
-number-some (some i) l = refl
+module _ (flags : ℕ) (cs : List Counter) (s : ℕ) (o : Option CounterId)
+    (q : option_map (λ (c : CounterId). c.number) o ≡ chosen flags cs (set_of s)) where
+  pub match-some : (i : CounterId) → o ≡ Some i → chosen flags cs (set_of s) ≡ Some i.number
+  match-some i e = sym q ∙ ap (option_map (λ (c : CounterId). c.number)) e
 
-number-none : (l : List ℕ) → ((i : ℕ) → Memᴰ i l → i < counters) → counters ≤ number_of (first l) → first l ≡ none
-unfolding first
-number-none [] e l = refl
-number-none (x ∷ xs) e l = absurd (omega (arith, e x (Memᴰ.head refl)))
-
-module _ (flags : ℕ) (cs : List Counter) (s n : ℕ) (q : n ≡ number_of (chosen flags cs (set_of s))) where
-  pub match-some : n < counters → chosen flags cs (set_of s) ≡ some n
-  match-some l = number-some (chosen flags cs (set_of s)) (omega (arith, q)) ∙ ap some (sym q)
-
-  pub match_none : counters ≤ n → chosen flags cs (set_of s) ≡ none
-  unfolding chosen
-  match_none l =
-      number-none (keep (λ i. bit flags 0 || not_running cs i) (set_of s))
-      (λ i m. (those-only (bit s) counters i (keep-only (λ i. bit flags 0 || not_running cs i) (set_of s) m).0).0)
-      (omega (arith, q))
+  pub match_none : o ≡ None → chosen flags cs (set_of s) ≡ None
+  match_none e = sym q ∙ ap (option_map (λ (c : CounterId). c.number)) e

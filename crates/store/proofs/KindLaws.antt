@@ -1,30 +1,31 @@
 -- Laws of a row's sets of counters: which control bytes the mapped and the running counters have, and the match.
-use Rattle.std.proofs.Common.{◌≡◌, ℕ, zero, suc, ◌+◌, ◌-◌, ◌*◌, ◌/◌, ◌%◌, ◌^◌, ◌<◌, ◌≤◌, Bool, ◌&&◌, ◌||◌, leb, List, get_or, sym, refl, ap, ◌∙◌, ap₂, pow-suc, add-one, arith, pow_mono, le-leb}
-use lib.Bits.{bit_and, bit_or, and_le_r}
-use lib.Count.{count_trailing_zeros}
+use Rattle.std.proofs.Common.{◌≡◌, ℕ, zero, suc, ◌+◌, ◌-◌, ◌*◌, ◌/◌, ◌%◌, ◌^◌, ◌<◌, ◌≤◌, Bool, true, false, ◌&&◌, ◌||◌, leb, List, get_or, sym, refl, ap, ◌∙◌, ap₂, pow-suc, add-one, arith, pow_mono, le-leb}
+use lib.Bits.{bit_and, and_le_r}
 use borrow.Author.Tests.{lt-leb}
+use Rattle.std.specs.Prelude.{is_some}
 use Rattle.rules.specs.Choice.{when◌then◌else◌}
 use Rattle.rules.specs.Sets.{bit, those, first}
 use Rattle.rules.specs.Counters.{is_mapped, is_running, not_running, chosen}
 use Rattle.rules.specs.declared.records.Counter.{Counter}
-use Rattle.rules.proofs.Logic.{if-true, if-false, if-both, by_cases}
+use Rattle.rules.proofs.Logic.{if-both, or_l}
 use Rattle.rules.proofs.Ascending.{keep-those}
+use Rattle.rules.proofs.SetLaws.{those-ext}
 use Rattle.rules.proofs.platform.BitLaws.{bit-and}
 use Rattle.store.specs.Rows.{byte, counter_of, counter_in, counters_in}
-use Rattle.store.specs.Sets.{mask_of, number_of}
+use Rattle.store.specs.Sets.{mask_of}
 use Rattle.store.proofs.ByteLaws.{past, byte_past, past-none, past_more}
 use Rattle.store.proofs.RowLaws.{counter_at_lem, of_none, of-stopped, of-running, kinds}
-use Rattle.store.proofs.SetLaws.{mask-small, mask-bit, mask-more, mask-not, lowest-number, with-stop, ones_bit}
+use Rattle.store.proofs.SetLaws.{mask-small, mask-bit, mask-more, mask-not}
 
 -- ----- control bytes
 
 module _ (b v : ℕ) where
-  mapped-of : leb 1 b ≡ (counter_of b v).mapped
+  mapped-of : leb 1 b ≡ is_some (counter_of b v).event
   mapped-of =
-      kinds b (leb 1 b ≡ (counter_of b v).mapped)
-      (λ e. lt-leb 1 b (omega arith) ∙ sym (ap (λ (c : Counter). c.mapped) (of_none b v e)))
-      (λ l m. le-leb 1 b l ∙ sym (ap (λ (c : Counter). c.mapped) (of-stopped b v l m)))
-      (λ l. le-leb 1 b (omega arith) ∙ sym (ap (λ (c : Counter). c.mapped) (of-running b v l)))
+      kinds b (leb 1 b ≡ is_some (counter_of b v).event)
+      (λ e. lt-leb 1 b (omega arith) ∙ sym (ap (λ (c : Counter). is_some c.event) (of_none b v e)))
+      (λ l m. le-leb 1 b l ∙ sym (ap (λ (c : Counter). is_some c.event) (of-stopped b v l m)))
+      (λ l. le-leb 1 b (omega arith) ∙ sym (ap (λ (c : Counter). is_some c.event) (of-running b v l)))
 
   running-of : leb 23 b ≡ (counter_of b v).running
   running-of =
@@ -48,7 +49,7 @@ module _ (r : List ℕ) where
   unfolding is_mapped counter_in
   mapped-mask =
       mask-ext 8 _ _
-      (λ i l. mapped-of (byte control i) (get_or r (4 + i) 0) ∙ sym (ap (λ (c : Counter). c.mapped) (counter_at_lem r i l)))
+      (λ i l. mapped-of (byte control i) (get_or r (4 + i) 0) ∙ sym (ap (λ (c : Counter). is_some c.event) (counter_at_lem r i l)))
 
   pub running-mask : mask_of 8 (λ i. leb 23 (byte control i)) ≡ mask_of 8 (is_running (counters_in r))
   unfolding is_running counter_in
@@ -98,30 +99,22 @@ module _ (w b n m rest place : ℕ) (k : Marked w b n m rest place) where
 
 module _ (flags s : ℕ) (cs : List Counter) where
   -- the counters that may be taken
-  abbrev free : ℕ → ℕ
-  free m = when bit flags 0 then 255 else m
+  abbrev free : ℕ → Bool
+  free i = bit flags 0 || not_running cs i
 
-  free-bit : (i : ℕ) → i < 8 → bit (free (mask_of 8 (not_running cs))) i ≡ (bit flags 0 || not_running cs i)
-  free-bit i l =
-      by_cases (bit flags 0)
-      (λ e. ap (λ (m : ℕ). bit m i) (if-true _ _ e) ∙ ones_bit i l ∙ sym (ap (λ (b : Bool). b || not_running cs i) e))
-      (λ e. ap (λ (m : ℕ). bit m i) (if-false _ _ e) ∙ mask-bit 8 (not_running cs) i l
-      ∙ sym (ap (λ (b : Bool). b || not_running cs i) e))
+  pub free-all : bit flags 0 ≡ true → 255 ≡ mask_of 8 free
+  unfolding mask_of when◌then◌else◌
+  free-all e = mask-ext 8 (λ _. true) free (λ i l. sym (or_l (bit flags 0) (not_running cs i) e))
 
-  free-small : free (mask_of 8 (not_running cs)) ≤ 255
-  free-small =
-      by_cases (bit flags 0)
-      (λ e. omega (arith, if-true 255 (mask_of 8 (not_running cs)) e))
-      (λ e. omega (arith, if-false 255 (mask_of 8 (not_running cs)) e, mask-small 8 (not_running cs)))
+  pub free-idle : bit flags 0 ≡ false → mask_of 8 (not_running cs) ≡ mask_of 8 free
+  free-idle e = mask-ext 8 (not_running cs) free (λ i l. rw e refl)
 
-  pub match_is : (m : ℕ) → m ≡ free (mask_of 8 (not_running cs))
-      → count_trailing_zeros 64 (bit_or (bit_and s m) 256) ≡ number_of (chosen flags cs (those 8 (bit s)))
+  pub taken-small : bit_and s (mask_of 8 free) ≤ 255
+  taken-small = omega (arith, and_le_r s (mask_of 8 free), mask-small 8 free)
+
+  pub match_is : first (those 8 (bit (bit_and s (mask_of 8 free)))) ≡ chosen flags cs (those 8 (bit s))
   unfolding chosen
-  match_is m e =
-      let x = bit_and s m in
-      let l : x < 256 = omega (arith, and_le_r s m, free-small, e) in
-      let k = with-stop x l in
-      lowest-number (bit_or x 256) (λ i. bit s i && (bit flags 0 || not_running cs i)) k.0
-      (λ i j. k.1.1.0 i j ∙ bit-and s m i
-      ∙ ap (λ (b : Bool). bit s i && b) (ap (λ (y : ℕ). bit y i) e ∙ free-bit i j)) k.1.0 k.1.1.1
-      ∙ ap (λ (is : List ℕ). number_of (first is)) (sym (keep-those (λ i. bit flags 0 || not_running cs i) (bit s) 8))
+  match_is =
+      ap first
+      (those-ext 8 _ _ (λ i l. bit-and s (mask_of 8 free) i ∙ ap (λ (b : Bool). bit s i && b) (mask-bit 8 free i l))
+      ∙ sym (keep-those free (bit s) 8))

@@ -1,5 +1,6 @@
 -- The view forgets nothing: rows that hold the same tables are the same rows.
 use Rattle.std.proofs.Common.{◌≡◌, ℕ, zero, suc, ◌+◌, ◌%◌, ◌^◌, ◌<◌, eqb, List, [], get_or, sym, refl, ap, ◌∙◌, subst, mod-lt, arith, lit<, ext_get_or, le-ltb, lt-ltb}
+use Rattle.std.proofs.lemmas.Option.{same_Some, none-some}
 use Rattle.rules.specs.Tables.{Tables, hart_at, own_at, counter_at}
 use Rattle.rules.specs.declared.records.Hart.{Hart}
 use Rattle.rules.specs.declared.records.Counter.{Counter}
@@ -36,14 +37,11 @@ module _ (b v b' v' : ℕ) (e : counter_of b v ≡ counter_of b' v') where
   abbrev Same : Type 0
   Same = (b ≡ b') × (v ≡ v')
 
-  mapped : {x y : Counter} → x ≡ y → x.mapped ≡ y.mapped
-  mapped z = ap (λ (c : Counter). c.mapped) z
+  event : {x y : Counter} → x ≡ y → x.event ≡ y.event
+  event z = ap (λ (c : Counter). c.event) z
 
   running : {x y : Counter} → x ≡ y → x.running ≡ y.running
   running z = ap (λ (c : Counter). c.running) z
-
-  code : {x y : Counter} → x ≡ y → x.code ≡ y.code
-  code z = ap (λ (c : Counter). c.code) z
 
   value : {x y : Counter} → x ≡ y → x.value ≡ y.value
   value z = ap (λ (c : Counter). c.value) z
@@ -53,16 +51,16 @@ module _ (b v b' v' : ℕ) (e : counter_of b v ≡ counter_of b' v') where
       kinds b Same
       (λ q. let x = sym (of_none b v q) ∙ e in
       kinds b' Same (λ q'. (q ∙ sym q', value (x ∙ of_none b' v' q')))
-      (λ l m. absurd (false-true (mapped (x ∙ of-stopped b' v' l m))))
-      (λ l. absurd (false-true (mapped (x ∙ of-running b' v' l)))))
+      (λ l m. absurd (none-some _ (event (x ∙ of-stopped b' v' l m))))
+      (λ l. absurd (none-some _ (event (x ∙ of-running b' v' l)))))
       (λ a d. let x = sym (of-stopped b v a d) ∙ e in
-      kinds b' Same (λ q'. absurd (false-true (sym (mapped (x ∙ of_none b' v' q')))))
-      (λ l m. let y = x ∙ of-stopped b' v' l m in (omega (arith, code y), value y))
+      kinds b' Same (λ q'. absurd (none-some _ (sym (event (x ∙ of_none b' v' q')))))
+      (λ l m. let y = x ∙ of-stopped b' v' l m in (omega (arith, same_Some _ _ (event y)), value y))
       (λ l. absurd (false-true (running (x ∙ of-running b' v' l)))))
       (λ a. let x = sym (of-running b v a) ∙ e in
-      kinds b' Same (λ q'. absurd (false-true (sym (mapped (x ∙ of_none b' v' q')))))
+      kinds b' Same (λ q'. absurd (none-some _ (sym (event (x ∙ of_none b' v' q')))))
       (λ l m. absurd (false-true (sym (running (x ∙ of-stopped b' v' l m)))))
-      (λ l. let y = x ∙ of-running b' v' l in (omega (arith, code y), value y)))
+      (λ l. let y = x ∙ of-running b' v' l in (omega (arith, same_Some _ _ (event y)), value y)))
 
 module _ (a b : List ℕ) (s : Fit a) (t : Fit b) (e : hart_in a ≡ hart_in b) (f : counters_in a ≡ counters_in b) where
   pair : (k : ℕ) → k < 8 → (byte (get_or a 3 0) k ≡ byte (get_or b 3 0) k) × (get_or a (4 + k) 0 ≡ get_or b (4 + k) 0)
@@ -95,8 +93,8 @@ only_one a b s t e =
     let y = row_of b t h m in
     ext_get_or 0 (get_or a h []) (get_or b h []) (x.size ∙ sym y.size)
     (λ i k. word (get_or a h []) (get_or b h []) x y
-    (sym (hart-seen a s h m) ∙ ap (λ (z : Tables). hart_at z.harts h) e ∙ hart-seen b t h m)
-    (sym (own-seen a s h m) ∙ ap (λ (z : Tables). own_at z h) e ∙ own-seen b t h m) i (omega (arith, x.size))))
+    (sym (hart-seen a (size_of a s) h m) ∙ ap (λ (z : Tables). hart_at z.harts h) e ∙ hart-seen b (size_of b t) h m)
+    (sym (own-seen a (size_of a s) h m) ∙ ap (λ (z : Tables). own_at z h) e ∙ own-seen b (size_of b t) h m) i (omega (arith, x.size))))
 
 -- rows that hold the same tables are the same rows
 pub held-once : (a b : List (List ℕ)) (s : Tables) → Holds a s → Holds b s → a ≡ b

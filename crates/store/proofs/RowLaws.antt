@@ -1,6 +1,7 @@
 -- Laws of a row: a record put into it, a counter put into it, and the three kinds of control byte.
 use Rattle.std.proofs.Common.{◌≡◌, ℕ, zero, suc, ◌+◌, ◌-◌, ◌*◌, ◌%◌, ◌^◌, ◌<◌, ◌≤◌, Bool, true, false, eqb, ltb, List, [], ◌∷◌, length, get_or, set, ap, ◌∙◌, ap₂, arith, length-set, get_or-set_other, ltb-false, ltb-true, le-ltb, lt-ltb, eq-eqb, ne_eqb, eqb-true}
 use borrow.Author.Tests.{eqb-false}
+use Rattle.std.specs.Prelude.{Some, None}
 use Rattle.rules.specs.Tables.{blank, counter_at}
 use Rattle.rules.specs.declared.records.Hart.{Hart}
 use Rattle.rules.proofs.Logic.{if-true, if-false, by_cases}
@@ -89,17 +90,17 @@ hart-held r x k s a o =
 -- ----- the three kinds of control byte
 
 module _ (b : ℕ) where
-  pub of_none : (v : ℕ) → b ≡ 0 → counter_of b v ≡ record { mapped = false; code = 0; running = false; value = v }
+  pub of_none : (v : ℕ) → b ≡ 0 → counter_of b v ≡ record { event = None; running = false; value = v }
   unfolding counter_of
   of_none v e = if-true _ _ (eq-eqb b 0 e)
 
   pub of-stopped : (v : ℕ) → 0 < b → b < 23
-      → counter_of b v ≡ record { mapped = true; code = b - 1; running = false; value = v }
+      → counter_of b v ≡ record { event = Some (b - 1); running = false; value = v }
   unfolding counter_of
   of-stopped v l m = if-false _ _ (ne_eqb b 0 (λ e. omega arith)) ∙ if-true _ _ (lt-ltb b 23 m)
 
   pub of-running : (v : ℕ) → 23 ≤ b
-      → counter_of b v ≡ record { mapped = true; code = b - 23; running = true; value = v }
+      → counter_of b v ≡ record { event = Some (b - 23); running = true; value = v }
   unfolding counter_of
   of-running v l = if-false _ _ (ne_eqb b 0 (λ e. omega arith)) ∙ if-false _ _ (le-ltb b 23 l)
 

@@ -1,16 +1,16 @@
 -- Laws of sets of counters as words: their bits, the test that one holds another, and the lowest number of one.
-use Rattle.std.proofs.Common.{◌≡◌, ℕ, zero, suc, ◌+◌, ◌-◌, ◌*◌, ◌/◌, ◌%◌, ◌^◌, ◌<◌, Bool, true, false, not, ◌&&◌, ◌||◌, eqb, ◌⊎◌, List, [], ◌∷◌, ◌++◌, sym, refl, ap, ◌∙◌, subst, ap₂, inl, inr, ⊎_elim, mod-lt, pow-suc, arith, lit<, eq-eqb, ne_eqb}
-use mathlib.Core.Bool.{and-true, and_assoc, or-true, or-false}
-use mathlib.Core.Option.{some}
-use lib.Bits.{bit_and, bit_or, or_add_and, and_le_l, and_le_r, or_lt}
-use lib.Count.{count_trailing_zeros, under}
-use borrow.Author.Tests.{not-true}
+use Rattle.std.proofs.Common.{◌≡◌, ℕ, zero, suc, ◌+◌, ◌-◌, ◌*◌, ◌/◌, ◌%◌, ◌^◌, ◌<◌, ◌≤◌, Bool, true, false, not, ◌&&◌, ◌||◌, eqb, ◌⊎◌, List, [], ◌∷◌, ◌++◌, sym, refl, ap, ◌∙◌, subst, ap₂, inl, inr, ⊎_elim, pow-suc, arith, lit<, eq-eqb, ne_eqb}
+use mathlib.Core.Bool.{and-true, and_assoc}
+use Rattle.std.specs.Prelude.{Some, None}
+use lib.Bits.{bit_and, and_le_r}
+use Rattle.std.specs.Int.{trailing_zeros, w8, w64}
+use Rattle.std.proofs.lemmas.Nat.Bits.{bit_at-trailing_zeros}
 use Rattle.rules.specs.Choice.{when◌then◌else◌}
 use Rattle.rules.specs.Sets.{bit, every, those, all, first}
-use Rattle.rules.proofs.Logic.{if-true, if-false, by_cases, below_or, clash}
+use Rattle.rules.proofs.Logic.{if-true, if-false, by_cases, below_or}
 use Rattle.rules.proofs.SetLaws.{every-at, every-ext}
-use Rattle.rules.proofs.platform.BitLaws.{bit-first, bit-next, bit-and, bit-or, subset-word}
-use Rattle.store.specs.Sets.{mask_of, number_of}
+use Rattle.rules.proofs.platform.BitLaws.{bit-first, bit-next, bit-and, subset-word}
+use Rattle.store.specs.Sets.{mask_of}
 
 -- ----- the word of a set
 
@@ -121,60 +121,19 @@ within-is s f =
 
 -- ----- the lowest number of a set
 
-parity : (m : ℕ) → (m % 2 ≡ 0) ⊎ (m % 2 ≡ 1)
-parity m = digit (m % 2) (mod-lt m (lit< tt))
-  where
-    digit : (d : ℕ) → d < 2 → (d ≡ 0) ⊎ (d ≡ 1)
-    digit zero h = inl refl
-    digit (suc zero) h = inr refl
-    digit (suc (suc d)) h = absurd (omega arith)
-
-half : (k m : ℕ) → m < 2 ^ suc k → m / 2 < 2 ^ k
-half k m h = let l : m < 2 ^ k * 2 = subst (λ (x : ℕ). m < x) (pow-suc 2 k) h in omega arith
-
-zeros-even : (k m : ℕ) → m % 2 ≡ 0 → count_trailing_zeros (suc k) m ≡ suc (count_trailing_zeros k (m / 2))
-unfolding count_trailing_zeros
-zeros-even k m e = ap (λ (d : ℕ). under d (count_trailing_zeros k (m / 2))) e
-
-zeros-odd : (k m : ℕ) → m % 2 ≡ 1 → count_trailing_zeros (suc k) m ≡ 0
-unfolding count_trailing_zeros
-zeros-odd k m e = ap (λ (d : ℕ). under d (count_trailing_zeros k (m / 2))) e
-
-pub record Lowest (k m t : ℕ) : Type 0 where
-  pub small : t < k
-  pub set : bit m t ≡ true
-  pub least : (j : ℕ) → j < t → bit m j ≡ false
-
-up : (k m t : ℕ) → m % 2 ≡ 0 → Lowest k (m / 2) t → Lowest (suc k) m (suc t)
-up k m t e a = record { small = omega (arith, a.small); set = bit-next m t ∙ a.set; least = below }
-  where
-    below : (j : ℕ) → j < suc t → bit m j ≡ false
-    below zero h = bit-first m ∙ ne_eqb (m % 2) 1 (λ q. omega arith)
-    below (suc j) h = bit-next m j ∙ a.least j (omega arith)
-
-pub lowest : (k m : ℕ) → 0 < m → m < 2 ^ k → Lowest k m (count_trailing_zeros k m)
-lowest zero m p h = absurd (omega arith)
-lowest (suc k) m p h =
-    ⊎_elim
-    (λ e. subst (Lowest (suc k) m) (sym (zeros-even k m e))
-    (up k m (count_trailing_zeros k (m / 2)) e (lowest k (m / 2) (omega arith) (half k m h))))
-    (λ e. subst (Lowest (suc k) m) (sym (zeros-odd k m e))
-    (record { small = omega arith; set = bit-first m ∙ eq-eqb (m % 2) 1 e; least = λ j l. absurd (omega arith) }))
-    (parity m)
-
 -- the first of a set is its lowest number
 none-those : (n : ℕ) (f : ℕ → Bool) → ((i : ℕ) → i < n → f i ≡ false) → those n f ≡ []
 unfolding those
 none-those zero f e = refl
 none-those (suc n) f e = ap₂ ◌++◌ (none-those n f (λ i l. e i (omega arith))) (if-false _ _ (e n (omega arith)))
 
-first-front : (a b : List ℕ) (i : ℕ) → first a ≡ some i → first (a ++ b) ≡ some i
+first-front : (a b : List ℕ) (i : ℕ) → first a ≡ Some i → first (a ++ b) ≡ Some i
 unfolding first
 first-front [] b i e = absurd (let z : ◌≡◌ {A = ℕ} 0 1 = cc in omega arith)
 first-front (x ∷ a) b i e = e
 
 first-those : (n : ℕ) (f : ℕ → Bool) (t : ℕ) → t < n → f t ≡ true → ((i : ℕ) → i < t → f i ≡ false)
-    → first (those n f) ≡ some t
+    → first (those n f) ≡ Some t
 unfolding those first
 first-those zero f t l e q = absurd (omega arith)
 first-those (suc n) f t l e q =
@@ -183,40 +142,25 @@ first-those (suc n) f t l e q =
     (λ m.
     let z : t ≡ n = omega arith in
     ap₂ (λ (a b : List ℕ). first (a ++ b)) (none-those n f (λ i k. q i (omega arith)))
-    (if-true _ _ (subst (λ (k : ℕ). f k ≡ true) z e)) ∙ ap some (sym z))
+    (if-true _ _ (subst (λ (k : ℕ). f k ≡ true) z e)) ∙ ap Some (sym z))
 
-pub lowest-number : (m : ℕ) (f : ℕ → Bool) → m < 2 ^ 64 → ((i : ℕ) → i < 8 → bit m i ≡ f i) → bit m 8 ≡ true → 0 < m
-    → count_trailing_zeros 64 m ≡ number_of (first (those 8 f))
-unfolding first
-lowest-number m f s e q p =
-    let t = count_trailing_zeros 64 m in
-    let l = lowest 64 m p s in
-    below_or t 8
-    (λ k. sym
-    (ap number_of (first-those 8 f t k (sym (e t k) ∙ l.set) (λ i j. sym (e i (omega arith)) ∙ l.least i j))))
-    (λ k.
-    let z : t ≡ 8 = below_or 8 t (λ j. absurd (clash q (l.least 8 j))) (λ j. omega arith) in
-    z ∙ sym (ap (λ (l : List ℕ). number_of (first l)) (none-those 8 f (λ i j. sym (e i j) ∙ l.least i (omega arith)))))
+-- the place of the lowest bit is the first number
+module _ (m : ℕ) (p : 0 < m) (s : m ≤ 255) where
+  abbrev low : ℕ
+  low = trailing_zeros w64 m
 
--- with bit 8 set beside the low eight bits of a word, there is a lowest
-pub with-stop : (x : ℕ) → x < 256
-    → (bit_or x 256 < 2 ^ 64) ×
-    ((bit (bit_or x 256) 8 ≡ true) × (((i : ℕ) → i < 8 → bit (bit_or x 256) i ≡ bit x i) × (0 < bit_or x 256)))
-unfolding bit every
-with-stop x l =
-    let s = or_lt 64 x 256 (omega arith) (lit< tt) in
-    let a = or_add_and x 256 in
-    let b = and_le_l x 256 in (
-      s,
-      (
-        bit-or x 256 8
-            ∙ or-true (bit x 8),
-        (
-          (λ i k. bit-or x 256 i ∙ ap (λ (c : Bool). bit x i || c) (not-stop i k) ∙ or-false (bit x i)),
-          omega (arith, a, b),
-        ),
-      ),
-    )
-  where
-    not-stop : (i : ℕ) → i < 8 → bit 256 i ≡ false
-    not-stop i k = not-true (bit 256 i) (every-at (λ i. not (bit 256 i)) 8 i k refl)
+  pub lowest-under : low < 8
+  lowest-under =
+      let a = bit_at-trailing_zeros w64 m p (omega arith) in
+      let b = bit_at-trailing_zeros w8 m p (omega arith) in
+      below_or low 8 (λ l. l) (λ l. absurd (omega (arith, a.2 (trailing_zeros w8 m) (omega (arith, b.0)), b.1)))
+
+  pub lowest-first : first (those 8 (bit m)) ≡ Some low
+  unfolding bit
+  lowest-first =
+      let a = bit_at-trailing_zeros w64 m p (omega arith) in
+      first-those 8 (bit m) low lowest-under (eq-eqb _ 1 a.1) (λ i l. ne_eqb _ 1 (λ e. omega (arith, e, a.2 i l)))
+
+pub none-first : first (those 8 (bit 0)) ≡ None
+unfolding first those bit when◌then◌else◌
+none-first = refl

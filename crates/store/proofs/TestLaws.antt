@@ -4,7 +4,8 @@ use lib.Bits.{bit_or, or_add_and, and_le_l, and_le_r}
 use borrow.Author.Tests.{lt-leb}
 use Rattle.rules.specs.Choice.{when◌then◌else◌}
 use Rattle.rules.specs.Sets.{every}
-use Rattle.rules.specs.Tables.{is_idle, is_blank, hart_well_formed, counter_well_formed}
+use Rattle.rules.specs.Tables.{is_idle, is_blank, hart_well_formed, event_well_formed}
+use Rattle.rules.specs.Tables.{counter_well_formed}
 use Rattle.rules.proofs.Logic.{if-true, if-false, below_or, same_test, and_l, and_r, and-of}
 use Rattle.rules.proofs.SetLaws.{every-at, every_of, every-ext}
 use Rattle.store.specs.Rows.{byte, state_in, hart_in, counter_of, counter_in}
@@ -56,7 +57,7 @@ module _ (w : ℕ) where
 
 module _ (b v : ℕ) where
   counter-on : counter_well_formed true (counter_of b v) ≡ leb b 44
-  unfolding counter_well_formed when◌then◌else◌
+  unfolding counter_well_formed event_well_formed when◌then◌else◌
   counter-on =
       kinds b (counter_well_formed true (counter_of b v) ≡ leb b 44)
       (λ e. ap (counter_well_formed true) (of_none b v e) ∙ sym (le-leb b 44 (omega arith)))

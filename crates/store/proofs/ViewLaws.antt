@@ -23,9 +23,9 @@ shaped-set t h r k f =
       | no z ↦ subst Fit (sym (get_or-set_other t h j r [] z)) (row_of t k j m)
     ])
 
-module _ (t : List (List ℕ)) (k : Shaped t) (h : ℕ) (l : h < harts) where
+module _ (t : List (List ℕ)) (k : length t ≡ harts) (h : ℕ) (l : h < harts) where
   inside : h < length t
-  inside = omega (arith, size_of t k)
+  inside = omega arith
 
   pub hart-seen : hart_at (seen t).harts h ≡ hart_in (get_or t h [])
   unfolding seen hart_at
@@ -35,6 +35,7 @@ module _ (t : List (List ℕ)) (k : Shaped t) (h : ℕ) (l : h < harts) where
   unfolding seen own_at
   own-seen = get_or-map-in counters_in t h [] [] inside
 
+module _ (t : List (List ℕ)) (k : Shaped t) (h : ℕ) (l : h < harts) where
   -- a row put anew
   row-holds : (r : List ℕ) (x : Hart) (cs : List Counter) → Held r x cs
       → Holds (set t h r) (tables (set (seen t).harts h x) (set (seen t).counters h cs))
@@ -51,7 +52,7 @@ module _ (t : List (List ℕ)) (k : Shaped t) (h : ℕ) (l : h < harts) where
   unfolding own_at
   put-hart-holds r x q =
       subst (λ (cs : List (List Counter)). Holds (set t h r) (tables (set (seen t).harts h x) cs))
-      (ap (set (seen t).counters h) (sym own-seen) ∙ set-get_or (seen t).counters h [])
+      (ap (set (seen t).counters h) (sym (own-seen t (size_of t k) h l)) ∙ set-get_or (seen t).counters h [])
       (row-holds r x (counters_in (get_or t h [])) q)
 
   pub put-own-holds : (r : List ℕ) (cs : List Counter) → Held r (hart_in (get_or t h [])) cs
@@ -59,7 +60,7 @@ module _ (t : List (List ℕ)) (k : Shaped t) (h : ℕ) (l : h < harts) where
   unfolding hart_at
   put-own-holds r cs q =
       subst (λ (xs : List Hart). Holds (set t h r) (tables xs (set (seen t).counters h cs)))
-      (ap (set (seen t).harts h) (sym hart-seen) ∙ set-get_or (seen t).harts h (idle STOPPED))
+      (ap (set (seen t).harts h) (sym (hart-seen t (size_of t k) h l)) ∙ set-get_or (seen t).harts h (idle STOPPED))
       (row-holds r (hart_in (get_or t h [])) cs q)
 
   -- the counters altered by f
@@ -67,5 +68,5 @@ module _ (t : List (List ℕ)) (k : Shaped t) (h : ℕ) (l : h < harts) where
       → Held r (hart_in (get_or t h [])) (f (counters_in (get_or t h [])))
       → Holds (set t h r) (put_own (seen t) h (f (own_at (seen t) h)))
   alter-own-holds f r q =
-      subst (λ (cs : List Counter). Holds (set t h r) (put_own (seen t) h (f cs))) (sym own-seen)
+      subst (λ (cs : List Counter). Holds (set t h r) (put_own (seen t) h (f cs))) (sym (own-seen t (size_of t k) h l))
       (put-own-holds r (f (counters_in (get_or t h []))) q)

@@ -43,14 +43,14 @@ module _ (p : Platform) (t : List (List ℕ)) (k : Shaped t) where
   shaped-seen =
       and-of (eq-eqb _ _ (length-map t hart_in ∙ size_of t k))
       (and-of (eq-eqb _ _ (length-map t counters_in ∙ size_of t k))
-      (every_of _ 128 (λ h l. eq-eqb _ _ (ap length (own-seen t k h l) ∙ eight (get_or t h [])))))
+      (every_of _ 128 (λ h l. eq-eqb _ _ (ap length (own-seen t (size_of t k) h l) ∙ eight (get_or t h [])))))
 
   row_seen : (h : ℕ) → h < 128 → hart_row_well_formed p (seen t) h ≡ row_well_formed (enabled p h) (get_or t h [])
   unfolding hart_row_well_formed row_well_formed
   row_seen h l =
       ap₂ (λ (x : Hart) (cs : List Counter). hart_well_formed (enabled p h) x && every 8
       (λ i. counter_well_formed (enabled p h) (counter_at cs i)))
-      (hart-seen t k h l) (own-seen t k h l)
+      (hart-seen t (size_of t k) h l) (own-seen t (size_of t k) h l)
       ∙ ap (λ (b : Bool). hart_well_formed (enabled p h) (hart_in (get_or t h [])) && b)
       (every-ext _ _ 8 (λ i m. ap (counter_well_formed (enabled p h)) (counter_at_lem (get_or t h []) i m)))
 

@@ -3,13 +3,14 @@
 --   byte w i                byte i of a word, lowest first
 --   with_byte w i b         the word with byte i put anew
 --   counter_of b v          the counter with the control byte b and the value v
---   control_of c            the control byte of a counter
+--   control_of c            the control byte of a counter; `control_for` of its event and running
 --   counter_in r i          counter i of a row; `counters_in r`: all eight
 --   Fit r                   r has the shape that its type gives it
 --   Held r x cs             the row r holds the record x and the counters cs
 --   Alters r r' f           the row r' is r with its counters altered by f
 use Rattle.std.specs.Prelude.{◌≡◌, ℕ, zero, suc, ◌+◌, ◌-◌, ◌*◌, ◌/◌, ◌%◌, ◌^◌, ◌<◌, Bool, true}
 use Rattle.std.specs.Prelude.{false, List, [], ◌∷◌, ◌++◌, length, ◌==◌, nat_lt, slice_index}
+use Rattle.std.specs.Prelude.{Option, Some, None}
 use Rattle.rules.specs.Choice.{when◌then◌else◌}
 use Rattle.rules.specs.Names.{counters}
 use Rattle.rules.specs.declared.records.Hart.{Hart}
@@ -81,14 +82,17 @@ last_control = 44
 
 unfoldable pub counter_of : ℕ → ℕ → Counter
 counter_of b v =
-    when b == 0 then record { mapped = false; code = 0; running = false; value = v }
+    when b == 0 then record { event = None; running = false; value = v }
     else when nat_lt b running_code
-    then record { mapped = true; code = b - stopped_code; running = false; value = v }
-    else record { mapped = true; code = b - running_code; running = true; value = v }
+    then record { event = Some (b - stopped_code); running = false; value = v }
+    else record { event = Some (b - running_code); running = true; value = v }
+
+abbrev pub control_for : Option ℕ → (running : Bool) → ℕ
+control_for (Some e) running = when running then e + running_code else e + stopped_code
+control_for None running = 0
 
 abbrev pub control_of : Counter → ℕ
-control_of c =
-    when c.mapped then (when c.running then c.code + running_code else c.code + stopped_code) else 0
+control_of c = control_for c.event c.running
 
 unfoldable pub counter_in : List ℕ → ℕ → Counter
 counter_in r i = counter_of (byte (slice_index r control_at) i) (slice_index r (values_at + i))

@@ -6,15 +6,19 @@
 --   alter_own           the tables with hart h's eight counters altered
 --   count_hart          the tables after an event of a code at hart h
 --   fresh_rows boot     the rows of fresh tables; `FreshOr`: what making them leaves
+--   fresh_made p        what making them answers
 use Rattle.std.specs.Prelude.{◌≡◌, ℕ, ◌-◌, ◌<◌, Bool, true, false, List, [], ◌∷◌, map, length}
-use Rattle.std.specs.Prelude.{replicate, ◌==◌, slice_index_or, slice_set}
+use Rattle.std.specs.Prelude.{replicate, ◌==◌, slice_index_or, slice_set, Result, Ok, Err}
 use Rattle.rules.specs.Choice.{when◌then◌else◌}
 use Rattle.rules.specs.Names.{harts, STARTED, STOPPED}
+use Rattle.rules.specs.Platform.{platform_accepted}
 use Rattle.rules.specs.Tables.{Tables, own_at, fresh}
 use Rattle.rules.specs.Replies.{count_at}
 use Rattle.rules.specs.declared.platform.Platform.{Platform}
 use Rattle.rules.specs.declared.records.Hart.{Hart}
 use Rattle.rules.specs.declared.records.Counter.{Counter}
+use Rattle.rules.specs.declared.answers.Refusal.{Refusal}
+use Rattle.rules.specs.declared.answers.Refusal.TheVariants.{NotWellFormed}
 use Rattle.store.specs.Rows.{words, state_word, hart_in, table, counters_in, Fit}
 
 unfoldable pub seen : List (List ℕ) → Tables
@@ -60,7 +64,11 @@ fresh_row boot = (when boot then state_word STARTED else state_word STOPPED) ∷
 abbrev pub fresh_rows : (boot : ℕ) → List (List ℕ)
 fresh_rows boot = table harts (λ h. fresh_row (h == boot))
 
--- what making fresh tables leaves: fresh tables, or what was there
+-- what making fresh tables answers: "platform .. not well formed" is H1
+abbrev pub fresh_made : Platform → Result Unit Refusal
+fresh_made p = when platform_accepted p then Ok tt else Err NotWellFormed
+
+-- what it leaves: fresh tables, or what was there
 abbrev pub FreshOr : Bool → Platform → (t t' : List (List ℕ)) → Type 0
 FreshOr true p t t' = Holds t' (fresh p)
 FreshOr false p t t' = t' ≡ t

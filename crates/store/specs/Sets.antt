@@ -1,13 +1,11 @@
 -- Sets of counters as words of bits.
 --   mask_of n f      the word whose bit i is f i, for each i below n
---   number_of o      the number of a counter, or 8 if there is none
 --   Fine cs          each of the counters cs is well formed
 --   set_of s         the counters that the low eight bits of a word name
 --   Startable cs s   each of the counters cs is well formed, and those of the set s are mapped
 --   configure_at     counter i configured
 --   at_one, Kept     a change of one counter of a set; that it keeps the set's well formed
 use Rattle.std.specs.Prelude.{◌≡◌, ℕ, zero, suc, ◌+◌, ◌*◌, ◌<◌, Bool, true, List, slice_set}
-use Rattle.std.proofs.Math.Option.{Option, none, some}
 use Rattle.rules.specs.Choice.{when◌then◌else◌}
 use Rattle.rules.specs.Names.{counters}
 use Rattle.rules.specs.Sets.{bit, those, all}
@@ -18,10 +16,6 @@ use Rattle.rules.specs.declared.records.Counter.{Counter}
 unfoldable pub mask_of : ℕ → (ℕ → Bool) → ℕ
 mask_of zero f = 0
 mask_of (suc n) f = (when f 0 then 1 else 0) + 2 * mask_of n (λ i. f (suc i))
-
-abbrev pub number_of : Option ℕ → ℕ
-number_of none = counters
-number_of (some i) = i
 
 abbrev pub Fine : List Counter → Type 0
 Fine cs = (i : ℕ) → CounterFine (counter_at cs i)

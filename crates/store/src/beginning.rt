@@ -2,10 +2,11 @@
 ghost use Rattle.std.specs.Prelude.{◌≡◌, length};
 ghost use Rattle.rules.specs.Names.{harts};
 ghost use Rattle.rules.specs.Platform.{platform_accepted};
-ghost use Rattle.store.specs.Seen.{fresh_rows, FreshOr};
+ghost use Rattle.store.specs.Seen.{fresh_rows, fresh_made, FreshOr};
 
 use crate::choice::choose;
 use crate::rows::{HARTS, Row, Rows, STATE, WORDS};
+use rules::answers::Refusal;
 use rules::platform::Platform;
 
 // The first words of a STARTED and of a STOPPED hart with a retentive sleep note.
@@ -26,12 +27,13 @@ fn fill(t: &mut [Row], boot: u64)
 }
 
 // Makes the rows fresh tables, or refuses a platform that is not accepted and leaves them.
-pub fn make_fresh(p: Platform, t: &mut Rows) -> bool
-    ensures { (result ≡ platform_accepted p) × FreshOr result p t.old t.new }
+pub fn make_fresh(p: &Platform, t: &mut Rows) -> Result<(), Refusal>
+    ensures answer { result ≡ fresh_made p.now }
+    ensures rows { FreshOr (platform_accepted p.now) p.now t.old t.new }
 {
     if !p.accepted() {
-        return false;
+        return Err(Refusal::NotWellFormed);
     }
     fill(t, p.boot);
-    true
+    Ok(())
 }

@@ -1,6 +1,6 @@
 // The eight counters of a row, one at a time, and an event of one of their codes.
 ghost use Rattle.std.specs.Prelude.{◌≡◌, ◌<◌, ◌≤◌, map, slice_set};
-ghost use Rattle.rules.specs.Names.{counters, last_code};
+ghost use Rattle.rules.specs.Names.{counters};
 ghost use Rattle.rules.specs.Tables.{counter_at, CounterFine};
 ghost use Rattle.rules.specs.Replies.{counted};
 ghost use Rattle.rules.specs.Counters.{configured};
@@ -10,6 +10,7 @@ ghost use Rattle.store.specs.Sets.{configure_at};
 
 use crate::choice::{choose, either};
 use crate::rows::{CONTROL, COUNTERS, RUNNING_CODE, Row, STOPPED_CODE, VALUES};
+use rules::ids::{CounterId, EventCode};
 use rules::platform::bit_of;
 use rules::records::Counter;
 
@@ -25,26 +26,14 @@ fn byte_of(w: u64, i: u64) -> u64
 fn counter_of(b: u64, v: u64) -> Counter
     ensures { result ≡ counter_of b v }
 {
-    if b == 0 {
-        return Counter {
-            mapped: false,
-            code: 0,
-            running: false,
-            value: v,
-        };
-    }
-    if b < RUNNING_CODE {
-        return Counter {
-            mapped: true,
-            code: b - STOPPED_CODE,
-            running: false,
-            value: v,
-        };
-    }
+    let (event, running) = match b {
+        0 => (None, false),
+        STOPPED_CODE..RUNNING_CODE => (Some(b - STOPPED_CODE), false),
+        _ => (Some(b - RUNNING_CODE), true),
+    };
     Counter {
-        mapped: true,
-        code: b - RUNNING_CODE,
-        running: true,
+        event,
+        running,
         value: v,
     }
 }
@@ -71,13 +60,11 @@ fn control_of(c: Counter) -> u64
     requires { CounterFine c }
     ensures { result ≡ control_of c }
 {
-    if c.mapped {
-        if c.running {
-            return c.code + RUNNING_CODE;
-        }
-        return c.code + STOPPED_CODE;
+    match c.event {
+        Some(code) if c.running => code + RUNNING_CODE,
+        Some(code) => code + STOPPED_CODE,
+        None => 0,
     }
-    0
 }
 
 // Puts counter i into a row.
@@ -94,28 +81,28 @@ fn configured(c: Counter, flags: u64, code: u64) -> Counter
     ensures { result ≡ configured flags code c }
 {
     Counter {
-        mapped: true,
-        code,
+        event: Some(code),
         running: either(bit_of(flags, 2), c.running),
         value: choose(bit_of(flags, 1), 0, c.value),
     }
 }
 
 // Configures counter i of a row.
-pub fn configure_counter(r: &mut Row, i: usize, flags: u64, code: u64)
-    requires { Fit r.old × ((i < counters) × (code ≤ last_code)) }
-    ensures { Alters r.old r.new (configure_at flags code i) }
+pub fn configure_counter(r: &mut Row, i: CounterId, flags: u64, code: EventCode)
+    requires { Fit r.old }
+    ensures { Alters r.old r.new (configure_at flags code.number i.number) }
 {
-    write_counter(r, i, configured(read_counter(r, i), flags, code));
+    let i = i.index();
+    write_counter(r, i, configured(read_counter(r, i), flags, code.number));
 }
 
 // "An event adds one, going from 2^64 - 1 to 0, to every running counter of that hart mapped to its
 // code."
-pub fn count_row(r: &mut Row, code: u64)
-    requires { Fit r.old × (code ≤ last_code) }
-    ensures { Alters r.old r.new (map (counted code)) }
+pub fn count_row(r: &mut Row, code: EventCode)
+    requires { Fit r.old }
+    ensures { Alters r.old r.new (map (counted code.number)) }
 {
-    let want = code + RUNNING_CODE;
+    let want = code.number + RUNNING_CODE;
     let mut control = r[CONTROL];
     if control == 0 {
         return;

@@ -1,22 +1,22 @@
 // Sets of a row's counters as words of bits: the tests, the match, start and stop.
-ghost use Rattle.std.specs.Prelude.{◌≡◌, ◌<◌, ◌==◌, bit_and, nat_le};
+ghost use Rattle.std.specs.Prelude.{◌≡◌, ◌<◌, ◌≤◌, ◌==◌, ◌||◌, bit_and, nat_le};
+ghost use Rattle.std.specs.Option.{option_map};
 ghost use Rattle.rules.specs.Names.{counters};
-ghost use Rattle.rules.specs.Sets.{all};
+ghost use Rattle.rules.specs.Sets.{bit, all, first};
 ghost use Rattle.rules.specs.Counters.{is_mapped, is_running, not_running, chosen, each, begun};
 ghost use Rattle.rules.specs.Counters.{ended};
 ghost use Rattle.store.specs.Rows.{byte, counters_in, Fit, Alters};
-ghost use Rattle.store.specs.Sets.{mask_of, number_of, set_of, at_one, KeptAt, Kept};
+ghost use Rattle.store.specs.Sets.{mask_of, set_of, at_one, KeptAt, Kept};
 
 use crate::choice::choose;
 use crate::counters::{read_counter, write_counter};
 use crate::rows::{CONTROL, COUNTERS, RUNNING_CODE, Row, STOPPED_CODE};
+use rules::ids::CounterId;
 use rules::platform::bit_of;
 use rules::records::Counter;
 
-// All eight counters, and the bit past them.
+// All eight counters.
 const ALL: u64 = 255;
-
-const PAST: u64 = 256;
 
 // The counters whose control byte is b or more.
 fn at_least(w: u64, b: u64) -> u64
@@ -83,13 +83,34 @@ pub fn row_none_running(r: &Row, s: u64) -> bool
     within(s, idle_in(r))
 }
 
-// "Chosen is the lowest counter of the set that is not running; with skip (bit 0) the lowest of the
-// set, running or not." 8 if there is none.
-pub fn row_match(r: &Row, s: u64, flags: u64) -> u64
-    ensures { result ≡ number_of (chosen flags (counters_in r.now) (set_of s)) }
+// The lowest counter of a set, if any: none is past the eighth.
+fn lowest(s: u64) -> Option<CounterId>
+    requires { s ≤ 255 }
+    ensures { option_map (λ c. c.number) result ≡ first (set_of s) }
 {
-    let free = choose(bit_of(flags, 0), ALL, idle_in(r));
-    u64::trailing_zeros((s & free) | PAST) as u64
+    if s == 0 {
+        return None;
+    }
+    Some(CounterId {
+        number: s.trailing_zeros() as u64,
+    })
+}
+
+// The counters that may be taken: with skip (bit 0) all, else those that do not run.
+fn free_in(r: &Row, flags: u64) -> u64
+    ensures { result
+        ≡ mask_of counters (λ i. bit flags 0 || not_running (counters_in r.now) i) }
+{
+    if bit_of(flags, 0) { ALL } else { idle_in(r) }
+}
+
+// "Chosen is the lowest counter of the set that is not running; with skip (bit 0) the lowest of the
+// set, running or not."
+pub fn row_match(r: &Row, s: u64, flags: u64) -> Option<CounterId>
+    ensures { option_map (λ c. c.number) result
+        ≡ chosen flags (counters_in r.now) (set_of s) }
+{
+    lowest(s & free_in(r, flags))
 }
 
 // "Bit 0 loads a3."
@@ -97,10 +118,9 @@ fn begun(c: Counter, flags: u64, initial: u64) -> Counter
     ensures { result ≡ begun flags initial c }
 {
     Counter {
-        mapped: c.mapped,
-        code: c.code,
         running: true,
         value: choose(bit_of(flags, 0), initial, c.value),
+        ..c
     }
 }
 
@@ -108,19 +128,10 @@ fn begun(c: Counter, flags: u64, initial: u64) -> Counter
 fn ended(c: Counter, flags: u64) -> Counter
     ensures { result ≡ ended flags c }
 {
-    if bit_of(flags, 0) {
-        return Counter {
-            mapped: false,
-            code: 0,
-            running: false,
-            value: c.value,
-        };
-    }
     Counter {
-        mapped: c.mapped,
-        code: c.code,
+        event: if bit_of(flags, 0) { None } else { c.event },
         running: false,
-        value: c.value,
+        ..c
     }
 }
 

@@ -6,17 +6,13 @@ ghost use Rattle.store.specs.Settling.{completed_of};
 
 use crate::records::{pack, unpack};
 use crate::rows::Row;
-use rules::records::{Hart, Next};
+use rules::records::Hart;
 
 // The record after the completion of its pending state; as it is if none is pending.
 fn completed(x: Hart) -> Hart
     ensures { result ≡ completed_of x }
 {
-    let next = x.done();
-    match next {
-        Next::To(y) => y,
-        Next::Forbidden => x,
-    }
+    x.done().unwrap_or(x)
 }
 
 // "the one hart's record is handed on by reference and altered there"

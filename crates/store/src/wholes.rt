@@ -86,9 +86,10 @@ fn half_well_formed(enabled: u64, t: &[Row], from: usize) -> bool
     fine
 }
 
-fn all_well_formed(p: Platform, t: &[Row]) -> bool
+fn all_well_formed(p: &Platform, t: &[Row]) -> bool
     requires { length t.now ≡ harts }
-    ensures { (result ≡ tables_well_formed p (seen t.now)) × Shaped t.now }
+    ensures answer { result ≡ tables_well_formed p.now (seen t.now) }
+    ensures shape { Shaped t.now }
 {
     let set = p.enabled;
     both(
@@ -98,8 +99,9 @@ fn all_well_formed(p: Platform, t: &[Row]) -> bool
 }
 
 // Whether the tables are well formed on the platform. It also tells the shape of the rows.
-pub fn well_formed(p: Platform, t: &Rows) -> bool
-    ensures { (result ≡ tables_well_formed p (seen t.now)) × Shaped t.now }
+pub fn well_formed(p: &Platform, t: &Rows) -> bool
+    ensures answer { result ≡ tables_well_formed p.now (seen t.now) }
+    ensures shape { Shaped t.now }
 {
     all_well_formed(p, t)
 }

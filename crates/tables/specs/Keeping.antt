@@ -9,13 +9,13 @@
 --   completed_of x       the record x after the completion of its pending state; as it is if none
 --                        is
 --   complete_hart s h    the tables s after the completion of hart h
+--   fresh_made p         what making fresh tables answers
 --   FreshOr b p t t'     t' holds fresh tables if b, else is t
 --   set_of s             the counters that the low eight bits of a word name
---   number_of o          the number of a counter, or 8 if there is none
 --   Fine cs              each of the counters cs is well formed
 --   Startable cs s       each of them is, and those of the set s are mapped
 --   configure_at         counter i of eight configured
 pub use Rattle.store.specs.Seen.{seen, Shaped, Holds, put_hart, put_own, alter_own, count_hart}
-pub use Rattle.store.specs.Seen.{FreshOr}
+pub use Rattle.store.specs.Seen.{fresh_made, FreshOr}
 pub use Rattle.store.specs.Settling.{completed_of, complete_hart}
-pub use Rattle.store.specs.Sets.{set_of, number_of, Fine, Startable, configure_at}
+pub use Rattle.store.specs.Sets.{set_of, Fine, Startable, configure_at}

@@ -1,130 +1,148 @@
-// Records answered, one after the other, on tables that are carried from block to block.
-use crate::lines::{flush, put_answer, put_wrong};
+// Blocks and their records answered, one after the other, on tables that are carried from block to
+// block.
+use arrayvec::ArrayString;
 use blocks::{Block, Record};
-use dispatch::host::{call, completion, event, wake};
-use rules::answers::Answer;
+use dispatch::host::{call, completion, event, fresh, wake};
+use rules::answers::{Answer, Denial, Refusal};
+use rules::numbers::{ACTION_MEMORY, SUCCESS};
 use rules::platform::{HartSet, Platform, Range};
+use std::fmt::Write;
+use std::{fmt, io};
 use tables::Rows;
 
-// Where the next line goes, how many used records there were, and whether writing still works.
-#[derive(Clone, Copy)]
-pub struct Page {
-    pub at: usize,
-    pub number: u64,
-    pub ok: bool,
-}
+pub(crate) const BLOCK_BYTES: usize = 512;
+
+// Lines of so many bytes are written before the next block, whose own then have room: seven of four
+// numbers, none over twenty characters.
+const ENOUGH: usize = 64000;
+
+const HARTS_0_TO_3: HartSet = HartSet { low: 15, high: 0 };
 
 // "Platform: harts 0 to 3 with the hypervisor extension, boot 0, one range 0x80000000 length
 // 0x08000000, widths 16 and 14, Base numbers 0."
-pub fn platform() -> Platform {
-    let none = Range { base: 0, length: 0 };
-    Platform {
-        enabled: HartSet { low: 15, high: 0 },
-        hypervisor: HartSet { low: 15, high: 0 },
-        boot: 0,
-        used: 1,
-        ranges: [
-            Range {
-                base: 0x80000000,
-                length: 0x08000000,
-            },
-            none,
-            none,
-            none,
-            none,
-            none,
-            none,
-            none,
-        ],
-        asid: 16,
-        vmid: 14,
-        implementation: 0,
-        version: 0,
-        vendor: 0,
-        architecture: 0,
-        machine: 0,
+const PLATFORM: Platform = Platform {
+    enabled: HARTS_0_TO_3,
+    hypervisor: HARTS_0_TO_3,
+    boot: 0,
+    // the first range alone
+    used: 1,
+    ranges: [Range {
+        base: 0x80000000,
+        length: 0x08000000,
+    }; 8],
+    asid: 16,
+    vmid: 14,
+    implementation: 0,
+    version: 0,
+    vendor: 0,
+    architecture: 0,
+    machine: 0,
+};
+
+// A used record as it is printed.
+#[derive(Clone, Copy)]
+struct Line {
+    number: u64,
+    answer: Answer,
+}
+
+// "prints its number, error (signed), value (unsigned), number of actions .., or number and Hk"
+impl fmt::Display for Line {
+    fn fmt<W: fmt::Write>(&self, f: &mut fmt::Formatter<W>) -> fmt::Result {
+        let number = self.number;
+        match self.answer {
+            Ok(done) => write!(f, "{number} {SUCCESS} {} {}", done.value, done.actions),
+            Err(Denial::Failed(error)) => write!(f, "{number} {} 0 0", error.number()),
+            Err(Denial::Refused(k)) => write!(f, "{number} H{}", k.number()),
+        }
     }
 }
 
-// The answer to a used record: H7 for an unknown kind, else the dispatcher's.
-fn answer(t: &mut Rows, actions: &mut [u64], x: Record) -> Answer {
-    match x {
-        Record::Call(h, r) => call(platform(), t, actions, h, r),
-        Record::Done(h) => completion(platform(), t, actions, h),
-        Record::Wake(h) => wake(platform(), t, actions, h),
-        Record::Event(h, code) => event(platform(), t, h, code),
-        Record::Unknown => Answer::unknown_kind(),
-        Record::Unused => Answer::unknown_kind(),
-    }
+// What is carried from block to block, and the lines that are still to be written.
+#[derive(Drop)]
+pub(crate) struct Transcript<P> {
+    out: P,
+    rows: Rows,
+    actions: [u64; ACTION_MEMORY],
+    // that of the last used record
+    number: u64,
+    lines: ArrayString<65536>,
 }
 
-// Whether a record is used.
-fn is_used(x: Record) -> bool {
-    if let Record::Unused = x { false } else { true }
-}
+impl<P: Print> Transcript<P> {
+    pub(crate) fn new(out: P) -> Self {
+        let mut rows = [[0; 12]; 128];
+        let _ = fresh(&PLATFORM, &mut rows);
+        Transcript {
+            out,
+            rows,
+            actions: [0; ACTION_MEMORY],
+            number: 0,
+            lines: ArrayString::new(),
+        }
+    }
 
-// Answers a record and puts its line.
-fn put_record(page: Page, t: &mut Rows, actions: &mut [u64], out: &mut [u8], x: Record) -> Page {
-    if !is_used(x) {
-        return page;
+    // Answers blocks, the last of which may be short. They are answered also where a write fails.
+    pub(crate) fn answer(&mut self, bytes: &[u8]) -> io::Result<()> {
+        let mut written = Ok(());
+        let (blocks, rest) = bytes.as_chunks::<BLOCK_BYTES>();
+        for block in blocks {
+            if self.lines.len() >= ENOUGH {
+                written = self.write();
+            }
+            self.block(block)?;
+        }
+        // "A short last block prints `short`."
+        if !rest.is_empty() {
+            writeln!(self.lines, "short")?;
+        }
+        written
     }
-    let a = answer(t, actions, x);
-    let number = page.number.wrapping_add(1);
-    let at = put_answer(out, page.at, number, a);
-    Page {
-        at,
-        number,
-        ok: page.ok,
-    }
-}
 
-// Answers the seven records of a right block.
-fn put_records(
-    page: Page,
-    t: &mut Rows,
-    actions: &mut [u64],
-    out: &mut [u8],
-    block: &Block,
-) -> Page {
-    let mut next = page;
-    let mut i: usize = 0;
-    while i < 7 {
-        next = put_record(next, t, actions, out, blocks::record_at(block, i));
-        i = i + 1;
+    // Writes the lines, which are then gone, also where that fails.
+    pub(crate) fn write(&mut self) -> io::Result<()> {
+        let written = self.out.write_all(self.lines.as_bytes());
+        self.lines.clear();
+        written
     }
-    next
-}
 
-// Makes room for the lines of a block.
-fn with_room<R: Print + Eprint>(rt: &R, page: Page, out: &[u8]) -> Page {
-    let at = page.at;
-    if at < 64000 {
-        return page;
+    fn block(&mut self, bytes: &[u8; BLOCK_BYTES]) -> fmt::Result {
+        let mut block: Block = [0; 64];
+        blocks::read(bytes, 0, &mut block);
+        // "A wrong block prints `H8` and adds no record."
+        if !blocks::check(&block) {
+            return writeln!(self.lines, "H8");
+        }
+        for record in blocks::records(&block) {
+            self.record(record)?;
+        }
+        Ok(())
     }
-    let done = flush(rt, out, at);
-    Page {
-        at: 0,
-        number: page.number,
-        ok: done,
-    }
-}
 
-// Answers a block: its records, or H8.
-pub fn put_block<R: Print + Eprint>(
-    rt: &R,
-    page: Page,
-    t: &mut Rows,
-    actions: &mut [u64],
-    out: &mut [u8],
-    block: &Block,
-) -> Page {
-    let next = with_room(rt, page, out);
-    if blocks::check(block) {
-        return put_records(next, t, actions, out, block);
-    }
-    Page {
-        at: put_wrong(out, next.at),
-        number: next.number,
-        ok: next.ok,
+    // Answers a record that is used, H7 for an unknown kind, and puts its line.
+    fn record(&mut self, record: Record) -> fmt::Result {
+        let answer = match record {
+            Record::Unused => return Ok(()),
+            Record::Call { hart, registers } => {
+                call(
+                    &PLATFORM,
+                    &mut self.rows,
+                    &mut self.actions,
+                    hart,
+                    registers,
+                )
+            }
+            Record::Done { hart } => completion(&PLATFORM, &mut self.rows, &self.actions, hart),
+            Record::Wake { hart } => wake(&PLATFORM, &mut self.rows, &mut self.actions, hart),
+            Record::Event { hart, code } => event(&PLATFORM, &mut self.rows, hart, code),
+            Record::Unknown => Err(Refusal::UnknownKind.into()),
+        };
+        // "Numbers run from 1 over the used records of all right blocks"
+        self.number = self.number.wrapping_add(1);
+        let line = Line {
+            number: self.number,
+            answer,
+        };
+        writeln!(self.lines, "{line}")
     }
 }

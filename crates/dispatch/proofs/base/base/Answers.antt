@@ -1,63 +1,42 @@
 -- `base` chooses by the function.
-use mathlib.Core.Bool.{false}
-use mathlib.Core.Path.{ap, ◌∙◌}
+use mathlib.Core.Path.{◌≡◌, refl, ap, ◌∙◌}
 use Prim.Native.Nat.{ℕ}
+use borrow.Author.Rules.{rules}
+use Rattle.std.specs.Prelude.{Ok}
 use Rattle.rules.specs.Machine.{plain_reply}
-use Rattle.rules.specs.Names.{success, not_supported}
-use Rattle.rules.specs.Replies.{view}
+use Rattle.rules.specs.Replies.{View, gives, view}
+use Rattle.rules.specs.Requests.{PlainRequest, base_request}
+use Rattle.rules.specs.declared.platform.Platform.{Platform}
 use Rattle.tables.specs.Keeping.{seen}
-use Rattle.rules.specs.declared.answers.Answer.TheVariants.{Pair}
-use Rattle.std.proofs.Common.{arith}
-use Rattle.dispatch.proofs.MeetsLaws.{plain-failing, plain-giving}
+use Rattle.rules.specs.declared.answers.Error.TheVariants.{NotSupported}
 use Rattle.rules.proofs.RequestWays.{base-0, base-1, base-2, base-3, base-4, base-5, base-6, base-unknown}
+use Rattle.dispatch.proofs.MeetsLaws.{plain-failing, plain-giving}
+use Rattle.dispatch.proofs.base.base.Goals.{in-0, in-1, in-2, in-3, in-4, in-5, in-6}
 use Rattle.dispatch.proofs.base.base.Goals as goal
 
-pub returns-in-0 : goal.returns-in-0
-unfolding plain_reply view
-returns-in-0 c = λ t h s. plain-giving t h s _ _ _
-    (ap (plain_reply c.args.p (view (seen t) h))
-    (base-0 c.args.r c.in-0.is)) c.success.ensures
-
-pub returns-in-1 : goal.returns-in-1
-unfolding plain_reply view
-returns-in-1 c = λ t h s. plain-giving t h s _ _ _
-    (ap (plain_reply c.args.p (view (seen t) h))
-    (base-1 c.args.r c.in-1.is)) c.success-in-1.ensures
-
-pub returns-in-2 : goal.returns-in-2
-unfolding plain_reply view
-returns-in-2 c = λ t h s. plain-giving t h s _ _ _
-    (ap (plain_reply c.args.p (view (seen t) h))
-    (base-2 c.args.r c.in-2.is)) c.success-in-2.ensures
-
-pub returns-in-3 : goal.returns-in-3
-unfolding plain_reply view
-returns-in-3 c = λ t h s. plain-giving t h s _ _ _
-    (ap (plain_reply c.args.p (view (seen t) h))
-    (base-3 c.args.r c.in-3.is))
-    (c.success-in-3.ensures ∙ ap (λ (x : ℕ). Pair success x false 0) c.probe.ensures)
-
-pub returns-in-4 : goal.returns-in-4
-unfolding plain_reply view
-returns-in-4 c = λ t h s. plain-giving t h s _ _ _
-    (ap (plain_reply c.args.p (view (seen t) h))
-    (base-4 c.args.r c.in-4.is)) c.success-in-4.ensures
-
-pub returns-in-5 : goal.returns-in-5
-unfolding plain_reply view
-returns-in-5 c = λ t h s. plain-giving t h s _ _ _
-    (ap (plain_reply c.args.p (view (seen t) h))
-    (base-5 c.args.r c.in-5.is)) c.success-in-5.ensures
-
-pub returns-in-6 : goal.returns-in-6
-unfolding plain_reply view
-returns-in-6 c = λ t h s. plain-giving t h s _ _ _
-    (ap (plain_reply c.args.p (view (seen t) h))
-    (base-6 c.args.r c.in-6.is)) c.success-in-6.ensures
+-- the reply to a request that is q, where the value k is q's
+given : (p : Platform) (v : View) {q' q : PlainRequest} {n k : ℕ} → q' ≡ q → plain_reply p v q ≡ gives n v.own → k ≡ n
+    → plain_reply p v q' ≡ gives k v.own
+given p v e g z = rw (e, z) g
 
 pub returns-in_default : goal.returns-in_default
 unfolding plain_reply
-returns-in_default c = λ t h s. plain-failing t h s _ _ _ not_supported
-    (ap (plain_reply c.args.p (view (seen t) h))
-    (base-unknown c.args.r
-    (omega arith))) c.not_supported.ensures
+returns-in_default c = λ t h s. plain-failing t h s _ _ _ NotSupported
+    (ap (plain_reply c.args.p.now (view (seen t) h)) (base-unknown c.args.r (search rules)))
+    (search rules)
+
+pub returns : goal.returns
+unfolding plain_reply view
+returns c =
+    let a = c.args in
+    let gives-it : (v : View) → plain_reply a.p.now v (base_request a.r) ≡ gives c.match-r.value v.own = λ v.
+    elim c.match-r.branch [
+      | in-0 w ↦ given _ v (base-0 a.r w.in-0.is) refl w.value-is
+      | in-1 w ↦ given _ v (base-1 a.r w.in-1.is) refl w.value-is
+      | in-2 w ↦ given _ v (base-2 a.r w.in-2.is) refl w.value-is
+      | in-3 w ↦ given _ v (base-3 a.r w.in-3.is) refl (w.value-is ∙ w.probe-value.ensures)
+      | in-4 w ↦ given _ v (base-4 a.r w.in-4.is) refl w.value-is
+      | in-5 w ↦ given _ v (base-5 a.r w.in-5.is) refl w.value-is
+      | in-6 w ↦ given _ v (base-6 a.r w.in-6.is) refl w.value-is
+    ] in
+    λ t h s. plain-giving t h s _ _ _ (gives-it (view (seen t) h)) (ap Ok c.value.ensures)

@@ -1,65 +1,55 @@
 -- `call` on well-formed tables: H4, H2, H3, then the request.
-use mathlib.Core.Path.{sym, ap, ◌∙◌}
+use mathlib.Core.Path.{refl, sym, ap, ◌∙◌}
+use Prim.Native.Nat.{ℕ}
+use lib.Dec.{eqb}
 use lib.ListN.{length}
-use borrow.Author.Tests.{lt-ltb, le-ltb}
+use borrow.Author.Tests.{eqb-true, eqb-false}
+use Rattle.std.proofs.lemmas.Bool.{ltb-false}
 use Rattle.rules.specs.Machine.{call}
-use Rattle.rules.specs.Names.{not_enabled, not_started, short_memory}
+use Rattle.rules.specs.Platform.{enabled}
+use Rattle.tables.specs.Keeping.{seen}
 use Rattle.rules.specs.declared.records.Hart.{Hart}
-use Rattle.dispatch.proofs.MeetsLaws.{refusing, by}
-use Rattle.rules.proofs.HostWays.{call-not-started, call-started, checked-short, checked-not-enabled, checked-enabled}
-use Rattle.rules.proofs.WellFormed.{enabled-under}
+use Rattle.rules.specs.declared.answers.Refusal.TheVariants.{NotStarted}
+use Rattle.rules.proofs.HostWays.{call-not-started, call-started}
+use Rattle.dispatch.proofs.AdmissionLaws.{not-admitted, admitted}
+use Rattle.dispatch.proofs.MeetsLaws.{refusing, refused-by, passed, stopped}
 use Rattle.dispatch.proofs.checked.call.Goals as goal
 
-pub returns-then-actions-lt-ACTION_MEMORY : goal.returns-then-actions-lt-ACTION_MEMORY
-returns-then-actions-lt-ACTION_MEMORY c = let a = c.args in
-    refusing _ _ c.requires.shaped _ short_memory
-    (checked-short _ _ (call (length a.actions.now) a.h a.r) (lt-ltb _ _ c.if-actions-lt-ACTION_MEMORY.true))
-    c.short_memory.ensures _
-
-pub returns-then-not-is_enabled : goal.returns-then-not-is_enabled
-returns-then-not-is_enabled c = let a = c.args in
-    refusing _ _ c.requires.shaped _ not_enabled
-    (checked-not-enabled _ _ (call (length a.actions.now) a.h a.r)
-    (le-ltb _ _ c.if-actions-lt-ACTION_MEMORY.false)
-    (sym c.is_enabled.ensures ∙ c.if-not-is_enabled.true)) c.not_enabled.ensures _
-
-pub get_hart-x-requires : goal.get_hart-x-requires
-get_hart-x-requires c = (
-  enabled-under _ _ (sym c.is_enabled.ensures ∙ c.if-not-is_enabled.false),
-  c.requires.shaped,
-)
-
-pub returns-then-x-ne-STARTED : goal.returns-then-x-ne-STARTED
-returns-then-x-ne-STARTED c =
+pub returns-in_err-h : goal.returns-in_err-h
+returns-in_err-h c =
     let a = c.args in
-    refusing _ _ c.requires.shaped _ not_started
-    (checked-enabled _ _ (call (length a.actions.now) a.h a.r)
-    (le-ltb _ _ c.if-actions-lt-ACTION_MEMORY.false)
-    (sym c.is_enabled.ensures
-    ∙ c.if-not-is_enabled.false)
-    ∙ call-not-started _ _ _ _ _
-    (λ e. c.if-x-ne-STARTED.true (ap (λ (x : Hart). x.state) c.get_hart-x.ensures ∙ e)))
-    c.not_started.ensures _
+    let room = length a.actions.now in
+    refusing _ _ c.requires.shaped _ _
+    (not-admitted a.p.now (seen a.t.now) (call room a.h a.r) room refl c.in_err-h.ensures)
+    (refused-by _ refl c.from_residual.ensures) _
+
+pub returns-in_err-ensure : goal.returns-in_err-ensure
+returns-in_err-ensure c =
+    let a = c.args in
+    let room = length a.actions.now in
+    let in' = c.in_ok-h.ensures in
+    let stop = stopped (eqb c.get_hart-x.result.state 0) NotStarted c.ensure.ensures c.in_err-ensure.was in
+    let away = eqb-false _ _ stop.0 in
+    admitted a.p.now a.t.now _ _ _ (λ (h : ℕ). call room h a.r) _ in'.0 in'.1 refl
+    (call-not-started _ _ _ _ _ (λ e. away (ap (λ (x : Hart). x.state) c.get_hart-x.ensures ∙ e)))
+    (refusing _ _ c.requires.shaped _ NotStarted refl (refused-by _ stop.1 c.from_residual-in_err-ensure.ensures) _)
 
 pub answer-requires : goal.answer-requires
-answer-requires c = record {
-  shaped = c.requires.shaped;
-  fine = c.requires.fine;
-  on =
-      (sym c.is_enabled.ensures
-      ∙ c.if-not-is_enabled.false);
-  room = c.if-actions-lt-ACTION_MEMORY.false;
-}
+answer-requires c =
+    let in' = c.in_ok-h.ensures in
+    record {
+      shaped = c.requires.shaped;
+      fine = c.requires.fine;
+      on = ap (enabled c.args.p.now) in'.1.1 ∙ in'.1.0;
+      room = ltb-false _ _ in'.0;
+    }
 
 pub returns : goal.returns
 returns c =
     let a = c.args in
-    by _ _ _ _ _ _ _ _
-    (checked-enabled _ _ (call (length a.actions.now) a.h a.r)
-    (le-ltb _ _ c.if-actions-lt-ACTION_MEMORY.false)
-    (sym c.is_enabled.ensures
-    ∙ c.if-not-is_enabled.false)
-    ∙ call-started _ _ _ _ _
-    (ap (λ (x : Hart). x.state) (sym c.get_hart-x.ensures)
-    ∙ c.if-x-ne-STARTED.false))
+    let room = length a.actions.now in
+    let in' = c.in_ok-h.ensures in
+    let here = eqb-true _ _ (passed (eqb c.get_hart-x.result.state 0) NotStarted c.ensure.ensures c.in_ok-ensure.was) in
+    admitted a.p.now a.t.now _ _ _ (λ (h : ℕ). call room h a.r) _ in'.0 in'.1 refl
+    (call-started _ _ _ _ _ (sym (ap (λ (x : Hart). x.state) c.get_hart-x.ensures) ∙ here))
     c.answer.ensures

@@ -1,39 +1,25 @@
 -- `completion` on well-formed tables: H4, H2, then done.
-use mathlib.Core.Path.{sym, ◌∙◌}
+use mathlib.Core.Path.{refl}
 use lib.ListN.{length}
-use borrow.Author.Tests.{lt-ltb, le-ltb}
 use Rattle.rules.specs.Machine.{completion}
-use Rattle.rules.specs.Names.{not_enabled, short_memory}
-use Rattle.dispatch.proofs.MeetsLaws.{refusing, by}
-use Rattle.rules.proofs.HostWays.{checked-short, checked-not-enabled, checked-enabled, completion-reply}
-use Rattle.rules.proofs.WellFormed.{enabled-under}
+use Rattle.tables.specs.Keeping.{seen}
+use Rattle.rules.proofs.HostWays.{completion-reply}
+use Rattle.dispatch.proofs.AdmissionLaws.{not-admitted, admitted}
+use Rattle.dispatch.proofs.MeetsLaws.{refusing, refused-by}
 use Rattle.dispatch.proofs.checked.completion.Goals as goal
 
-pub returns-then-actions-lt-ACTION_MEMORY : goal.returns-then-actions-lt-ACTION_MEMORY
-returns-then-actions-lt-ACTION_MEMORY c = let a = c.args in
-    refusing _ _ c.requires.shaped _ short_memory
-    (checked-short _ _ (completion (length a.actions.now) a.h) (lt-ltb _ _ c.if-actions-lt-ACTION_MEMORY.true))
-    c.short_memory.ensures
-
-pub returns-then-not-is_enabled : goal.returns-then-not-is_enabled
-returns-then-not-is_enabled c = let a = c.args in
-    refusing _ _ c.requires.shaped _ not_enabled
-    (checked-not-enabled _ _ (completion (length a.actions.now) a.h)
-    (le-ltb _ _ c.if-actions-lt-ACTION_MEMORY.false)
-    (sym c.is_enabled.ensures ∙ c.if-not-is_enabled.true)) c.not_enabled.ensures
-
-pub complete-requires : goal.complete-requires
-complete-requires c = (
-  enabled-under _ _ (sym c.is_enabled.ensures ∙ c.if-not-is_enabled.false),
-  (c.requires.fine, c.requires.shaped),
-)
+pub returns-in_err-h : goal.returns-in_err-h
+returns-in_err-h c =
+    let a = c.args in
+    let room = length a.actions.now in
+    refusing _ _ c.requires.shaped _ _
+    (not-admitted a.p.now (seen a.t.now) (completion room a.h) room refl c.in_err-h.ensures)
+    (refused-by _ refl c.from_residual.ensures)
 
 pub returns : goal.returns
 returns c =
     let a = c.args in
-    λ m. by _ _ _ _ _ _ _ _
-    (checked-enabled _ _ (completion (length a.actions.now) a.h)
-    (le-ltb _ _ c.if-actions-lt-ACTION_MEMORY.false)
-    (sym c.is_enabled.ensures ∙ c.if-not-is_enabled.false)
-    ∙ completion-reply a.p _ (length a.actions.now) a.h)
+    let room = length a.actions.now in
+    let in' = c.in_ok-h.ensures in
+    λ m. admitted a.p.now a.t.now _ m m (completion room) _ in'.0 in'.1 refl (completion-reply _ _ room _)
     (c.complete.ensures m)

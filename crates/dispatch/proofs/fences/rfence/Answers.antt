@@ -1,110 +1,39 @@
 -- `rfence` chooses by the function.
-use mathlib.Core.Path.{sym, ap, ◌∙◌}
+use mathlib.Core.Path.{◌≡◌, ap}
 use native.Mathlib.Omega.{arith}
-use Rattle.rules.specs.Fences.{fence_reply}
+use Rattle.rules.specs.Fences.{function_of}
 use Rattle.rules.specs.Machine.{plain_reply}
-use Rattle.rules.specs.Names.{not_supported}
 use Rattle.rules.specs.Replies.{view, plain}
-use Rattle.rules.specs.Requests.{PlainRequest}
+use Rattle.rules.specs.Requests.{PlainRequest, fence, unknown, fence_request}
+use Rattle.rules.specs.declared.answers.Error.TheVariants.{NotSupported}
 use Rattle.tables.specs.Keeping.{seen}
-use Rattle.rules.specs.declared.actions.Action.{Action}
-use Rattle.dispatch.proofs.ChoiceLaws.{id-small}
-use Rattle.dispatch.proofs.MeetsLaws.{plain-failing, by}
-use Rattle.rules.proofs.RequestWays.{fence-0, fence-with-id, fence-with-range, fence-unknown}
+use Rattle.dispatch.proofs.MeetsLaws.{plain-handing, by}
+use Rattle.dispatch.proofs.Tests.{choices}
 use Rattle.dispatch.proofs.fences.rfence.Goals as goal
+use Rattle.dispatch.proofs.fences.rfence.Goals.{in-FenceI, in-SfenceVmaAsid, in-SfenceVma}
 
-pub fence-requires-then-fid-eq0 : goal.fence-requires-then-fid-eq0
-fence-requires-then-fid-eq0 c = (
-  c.requires.0,
-  (
-    c.requires.1.0,
-    (
-      c.requires.1.1,
-      (omega arith, ap (λ (k : Action). k.kind) c.fence.ensures),
-    ),
-  ),
-)
-
-pub returns-then-fid-eq0 : goal.returns-then-fid-eq0
-unfolding plain_reply
-returns-then-fid-eq0 c =
+pub returns-in_err-fence : goal.returns-in_err-fence
+unfolding plain_reply fence_request
+returns-in_err-fence c =
     let a = c.args in
-    by _ _ _ _ _ _ _ _
-    (ap (λ (q : PlainRequest). plain (view (seen a.t.now) a.h)
-    (plain_reply a.p (view (seen a.t.now) a.h) q))
-    (fence-0 a.r c.if-fid-eq0.true)
-    ∙ ap (plain (view (seen a.t.now) a.h))
-    (sym (ap (λ (k : Action). fence_reply a.p (view (seen a.t.now) a.h) 0 a.r.a0 a.r.a1 k.start
-    k.size k.id) c.fence.ensures)))
-    c.fence-then-fid-eq0.ensures
-
-pub fence-requires-then-has_id : goal.fence-requires-then-has_id
-fence-requires-then-has_id c = id-small _ (sym c.has_id.ensures ∙ c.if-has_id.true)
-
-pub fence-requires-then-has_id-2 : goal.fence-requires-then-has_id-2
-fence-requires-then-has_id-2 c = (
-  c.requires.0,
-  (
-    c.requires.1.0,
-    (
-      c.requires.1.1,
-      (
-        id-small _ (sym c.has_id.ensures ∙ c.if-has_id.true),
-        ap
-            (λ (k : Action). k.kind) c.fence-then-has_id.ensures,
-      ),
-    ),
-  ),
-)
-
-pub returns-then-has_id : goal.returns-then-has_id
-unfolding plain_reply
-returns-then-has_id c =
-    let a = c.args in
-    by _ _ _ _ _ _ _ _
-    (ap (λ (q : PlainRequest). plain (view (seen a.t.now) a.h)
-    (plain_reply a.p (view (seen a.t.now) a.h) q))
-    (fence-with-id a.r c.if-fid-eq0.false
-    (sym c.has_id.ensures
-    ∙ c.if-has_id.true))
-    ∙ ap (plain (view (seen a.t.now) a.h))
-    (sym (ap (λ (k : Action). fence_reply a.p (view (seen a.t.now) a.h) a.r.a6 a.r.a0 a.r.a1
-    k.start k.size k.id) c.fence-then-has_id.ensures)))
-    c.fence-then-has_id-2.ensures
-
-pub fence-requires-then-fid-lt7-2 : goal.fence-requires-then-fid-lt7-2
-fence-requires-then-fid-lt7-2 c = (
-  c.requires.0,
-  (
-    c.requires.1.0,
-    (
-      c.requires.1.1,
-      (c.if-fid-lt7.true, ap (λ (k : Action). k.kind) c.fence-then-fid-lt7.ensures),
-    ),
-  ),
-)
-
-pub returns-then-fid-lt7 : goal.returns-then-fid-lt7
-unfolding plain_reply
-returns-then-fid-lt7 c =
-    let a = c.args in
-    by _ _ _ _ _ _ _ _
-    (ap (λ (q : PlainRequest). plain (view (seen a.t.now) a.h)
-    (plain_reply a.p (view (seen a.t.now) a.h) q))
-    (fence-with-range a.r c.if-fid-eq0.false
-    (sym c.has_id.ensures
-    ∙ c.if-has_id.false)
-    c.if-fid-lt7.true)
-    ∙ ap (plain (view (seen a.t.now) a.h))
-    (sym (ap (λ (k : Action). fence_reply a.p (view (seen a.t.now) a.h) a.r.a6 a.r.a0 a.r.a1
-    k.start k.size k.id) c.fence-then-fid-lt7.ensures)))
-    c.fence-then-fid-lt7-2.ensures
+    let other : fence_request a.r ≡ unknown = grind (arith, choices, c.in_err-fence.ensures) in
+    plain-handing _ _ c.requires.shaped _ _ NotSupported c.from_residual.ensures c.in_err-fence.ensures.0
+    (ap (plain_reply a.p.now (view (seen a.t.now) a.h.number)) other) _
 
 pub returns : goal.returns
-unfolding plain_reply
-returns c = let a = c.args in
-    plain-failing _ _ c.requires.1.0 _ _ _ not_supported
-    (ap (plain_reply a.p (view (seen a.t.now) a.h))
-    (fence-unknown a.r c.if-fid-eq0.false
-    (sym c.has_id.ensures ∙ c.if-has_id.false) c.if-fid-lt7.false))
-    c.not_supported.ensures _
+unfolding plain_reply fence_request
+returns c =
+    let a = c.args in
+    let f = c.in_ok-fence.fence in
+    let like = c.match-fence.like in
+    let number : function_of f ≡ a.r.a6 = c.in_ok-fence.ensures in
+    let asked : fence_request a.r ≡ fence (function_of f) a.r.a0 a.r.a1 like.start like.size like.id =
+    elim c.match-fence.branch [
+      | in-FenceI w ↦ grind (arith, choices, w.like-is, w.fence-like.ensures)
+      | in-SfenceVmaAsid w ↦ grind (arith, choices, w.like-is, w.fence-like-in-SfenceVmaAsid.ensures)
+      | in-SfenceVma w ↦ grind (arith, choices, w.like-is, w.fence-like-in-SfenceVma.ensures)
+    ] in
+    by _ _ _ _ _ _ _ _
+    (ap (λ (q : PlainRequest). plain (view (seen a.t.now) a.h.number)
+    (plain_reply a.p.now (view (seen a.t.now) a.h.number) q)) asked)
+    c.send.ensures

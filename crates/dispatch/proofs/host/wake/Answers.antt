@@ -1,35 +1,27 @@
 -- `wake`: H1, then what is left on well-formed tables.
-use mathlib.Core.Path.{sym, ◌∙◌}
 use lib.ListN.{length}
 use Rattle.rules.specs.Machine.{waking}
-use Rattle.rules.specs.Names.{not_well_formed}
-use Rattle.rules.specs.Platform.{platform_accepted}
-use Rattle.rules.specs.Tables.{well_formed}
-use Rattle.dispatch.proofs.MeetsLaws.{refusing, by}
+use Rattle.tables.specs.Keeping.{seen}
+use Rattle.rules.specs.declared.answers.Refusal.TheVariants.{NotWellFormed}
 use Rattle.rules.proofs.HostWays.{reply-ill, reply-well}
-use Rattle.rules.proofs.Logic.{and_l, and_r}
+use Rattle.dispatch.proofs.AdmissionLaws.{vouched}
+use Rattle.dispatch.proofs.MeetsLaws.{refusing, refused-by, by, passed, stopped}
 use Rattle.dispatch.proofs.host.wake.Goals as goal
 
-pub returns-then-not-is_well_formed : goal.returns-then-not-is_well_formed
-returns-then-not-is_well_formed c = let a = c.args in
-    refusing _ _ c.is_well_formed.ensures.1 _ not_well_formed
-    (reply-ill _ _ (waking (length a.actions.now) a.h)
-    (sym c.is_well_formed.ensures.0 ∙ c.if-not-is_well_formed.true))
-    c.not_well_formed.ensures _
+pub returns-in_err-vouch : goal.returns-in_err-vouch
+returns-in_err-vouch c =
+    let a = c.args in
+    let stop = stopped _ NotWellFormed c.vouch.ensures.answer c.in_err-vouch.was in
+    refusing _ _ c.vouch.ensures.shape _ NotWellFormed (reply-ill a.p.now (seen a.t.now) (waking (length a.actions.now) a.h) stop.0)
+    (refused-by _ stop.1 c.from_residual.ensures) _
 
 pub wake-requires : goal.wake-requires
-unfolding well_formed
-wake-requires c = let w =
-    (sym c.is_well_formed.ensures.0 ∙ c.if-not-is_well_formed.false) in
-    record {
-      shaped = c.is_well_formed.ensures.1;
-      accepted = and_l _ _ w;
-      fine = and_r (platform_accepted _) _ w;
-    }
+wake-requires c =
+    vouched _ _ c.vouch.ensures.shape (passed _ NotWellFormed c.vouch.ensures.answer c.in_ok-vouch.was)
 
 pub returns : goal.returns
-returns c = let a = c.args in
+returns c =
+    let a = c.args in
     by _ _ _ _ _ _ _ _
-    (reply-well _ _ (waking (length a.actions.now) a.h)
-    (sym c.is_well_formed.ensures.0
-    ∙ c.if-not-is_well_formed.false)) c.wake.ensures
+    (reply-well a.p.now (seen a.t.now) (waking (length a.actions.now) a.h) (passed _ NotWellFormed c.vouch.ensures.answer c.in_ok-vouch.was))
+    c.wake.ensures

@@ -1,89 +1,65 @@
 -- `configure` makes its checks in order, then configures the counter that matches.
-use mathlib.Core.Path.{sym, ◌∙◌}
-use borrow.Author.Rules.{rules}
-use Rattle.rules.specs.Names.{invalid_param, not_supported}
+use mathlib.Core.Path.{ap, ◌∙◌}
+use borrow.Author.Tests.{ltb-true, ltb-false, eqb-true, eqb-false}
+use Rattle.std.specs.Prelude.{Ok}
 use Rattle.rules.specs.Replies.{view}
-use Rattle.dispatch.proofs.CounterSetLaws.{event-from, event-to, chosen-some, chosen_none}
-use Rattle.dispatch.proofs.MeetsLaws.{plain-failing, plain-counting}
+use Rattle.dispatch.proofs.CounterSetLaws.{plain-denied}
+use Rattle.dispatch.proofs.MeetsLaws.{handed, plain-failing, plain-counting, passed, stopped}
 use Rattle.rules.proofs.CounterWays.{configure-flags, configure-no-counter, configure-no-event, configure-data}
 use Rattle.rules.proofs.CounterWays.{configure-no-match, configure-given}
+use Rattle.tables.proofs.Laws.{match-some, match_none}
 use Rattle.dispatch.proofs.pmu.configure.Goals as goal
 
-pub returns-then-flags-ge-CONFIGURE_FLAGS : goal.returns-then-flags-ge-CONFIGURE_FLAGS
+pub returns-in_err-ensure : goal.returns-in_err-ensure
 unfolding view
-returns-then-flags-ge-CONFIGURE_FLAGS c =
-    λ p.
-    plain-failing _ _ c.requires.1 _ _ _ invalid_param
-    (configure-flags p _ _ _ _ _ _ c.if-flags-ge-CONFIGURE_FLAGS.true)
-    c.invalid_param.ensures
+returns-in_err-ensure c =
+    λ p. plain-denied _ _ c.requires (stopped _ _ c.ensure.ensures c.in_err-ensure.was)
+    (λ n. configure-flags p _ _ _ _ _ _ (ltb-false _ _ n)) c.from_residual.ensures
 
-pub returns-then-not-set_fits : goal.returns-then-not-set_fits
+pub returns-in_err-set : goal.returns-in_err-set
 unfolding view
-returns-then-not-set_fits c =
-    let flags = c.if-flags-ge-CONFIGURE_FLAGS.false in
-    λ p.
-    plain-failing _ _ c.requires.1 _ _ _ invalid_param
-    (configure-no-counter p _ _ _ _ _ _ flags
-    (sym (c.set_fits.ensures p) ∙ c.if-not-set_fits.true))
-    c.invalid_param-then-not-set_fits.ensures
+returns-in_err-set c =
+    let flags = ltb-true _ _ (passed _ _ c.ensure.ensures c.in_ok-ensure.was) in
+    λ p. plain-denied _ _ c.requires (c.in_err-set.ensures p)
+    (configure-no-counter p _ _ _ _ _ _ flags) c.from_residual-in_err-set.ensures
 
-pub returns-then-not-is_event : goal.returns-then-not-is_event
+pub returns-in_err-code : goal.returns-in_err-code
 unfolding view
-returns-then-not-is_event c =
-    let flags = c.if-flags-ge-CONFIGURE_FLAGS.false in
-    λ p.
-    let fits = sym (c.set_fits.ensures p) ∙ c.if-not-set_fits.false in
-    plain-failing _ _ c.requires.1 _ _ _ not_supported
-    (configure-no-event p _ _ _ _ _ _ flags fits
-    (sym c.is_event.ensures ∙ c.if-not-is_event.true))
-    c.not_supported.ensures
+returns-in_err-code c =
+    let flags = ltb-true _ _ (passed _ _ c.ensure.ensures c.in_ok-ensure.was) in
+    λ p. plain-denied _ _ c.requires c.in_err-code.ensures
+    (configure-no-event p _ _ _ _ _ _ flags (c.in_ok-set.ensures p).0) c.from_residual-in_err-code.ensures
 
-pub returns-then-datum-ne0 : goal.returns-then-datum-ne0
+pub returns-in_err-ensure-2 : goal.returns-in_err-ensure-2
 unfolding view
-returns-then-datum-ne0 c =
-    let flags = c.if-flags-ge-CONFIGURE_FLAGS.false in
-    let event = sym c.is_event.ensures ∙ c.if-not-is_event.false in
-    λ p.
-    let fits = sym (c.set_fits.ensures p) ∙ c.if-not-set_fits.false in
-    plain-failing _ _ c.requires.1 _ _ _ invalid_param
-    (configure-data p _ _ _ _ _ _ flags fits event c.if-datum-ne0.true)
-    c.invalid_param-then-datum-ne0.ensures
+returns-in_err-ensure-2 c =
+    let flags = ltb-true _ _ (passed _ _ c.ensure.ensures c.in_ok-ensure.was) in
+    λ p. plain-denied _ _ c.requires (stopped _ _ c.ensure-2.ensures c.in_err-ensure-2.was)
+    (λ n. configure-data p _ _ _ _ _ _ flags (c.in_ok-set.ensures p).0 c.in_ok-code.ensures.0 (eqb-false _ _ n))
+    c.from_residual-in_err-ensure-2.ensures
 
-pub returns-then-i-ge-COUNTERS : goal.returns-then-i-ge-COUNTERS
+pub returns-in_err-i : goal.returns-in_err-i
 unfolding view
-returns-then-i-ge-COUNTERS c =
-    let flags = c.if-flags-ge-CONFIGURE_FLAGS.false in
-    let event = sym c.is_event.ensures ∙ c.if-not-is_event.false in
-    let empty = c.if-datum-ne0.false in
+returns-in_err-i c =
+    let flags = ltb-true _ _ (passed _ _ c.ensure.ensures c.in_ok-ensure.was) in
+    let empty = eqb-true _ _ (passed _ _ c.ensure-2.ensures c.in_ok-ensure-2.was) in
+    let match = match_none _ _ _ _ c.match_counter.ensures c.in_err-i.ensures.ok_part in
     λ p.
-    let fits = sym (c.set_fits.ensures p) ∙ c.if-not-set_fits.false in
-    let word = c.set_word.ensures p fits in
-    let match = c.match_counter-i.ensures in
-    plain-failing _ _ c.requires.1 _ _ _ not_supported
-    (configure-no-match p _ _ _ _ _ _ flags fits event empty
-    (chosen_none _ _ _ _ word match c.if-i-ge-COUNTERS.true))
-    c.not_supported-then-i-ge-COUNTERS.ensures
-
-pub overflow_sub-event : goal.overflow_sub-event
-overflow_sub-event c =
-    event-from _ (sym c.is_event.ensures ∙ c.if-not-is_event.false)
-
-pub configure-requires : goal.configure-requires
-configure-requires c =
-    let event = sym c.is_event.ensures ∙ c.if-not-is_event.false in
-    (c.requires.0, (search rules, (event-to _ event, c.requires.1)))
+    let (fits, word) = c.in_ok-set.ensures p in
+    plain-failing _ _ c.requires _ _ _ _
+    (configure-no-match p _ _ _ _ _ _ flags fits c.in_ok-code.ensures.0 empty (rw word at match))
+    (let none = rw c.in_err-i.ensures.ok_part at c.in_err-i.ensures.value in
+    handed _ c.from_residual-in_err-i.ensures ∙ cc)
 
 pub returns : goal.returns
 unfolding view
 returns c =
-    let flags = c.if-flags-ge-CONFIGURE_FLAGS.false in
-    let event = sym c.is_event.ensures ∙ c.if-not-is_event.false in
-    let empty = c.if-datum-ne0.false in
+    let flags = ltb-true _ _ (passed _ _ c.ensure.ensures c.in_ok-ensure.was) in
+    let (event, code) = c.in_ok-code.ensures in
+    let empty = eqb-true _ _ (passed _ _ c.ensure-2.ensures c.in_ok-ensure-2.was) in
+    let match = match-some _ _ _ _ c.match_counter.ensures _ c.in_ok-i.ensures.ok_part in
     λ p.
-    let fits = sym (c.set_fits.ensures p) ∙ c.if-not-set_fits.false in
-    let word = c.set_word.ensures p fits in
-    let match = c.match_counter-i.ensures in
+    let (fits, word) = c.in_ok-set.ensures p in
     plain-counting _ _ _ _ _ _ _
-    (configure-given p _ _ _ _ _ _ flags fits event empty _
-    (chosen-some _ _ _ _ word match c.if-i-ge-COUNTERS.false))
-    c.success.ensures c.configure.ensures
+    (configure-given p _ _ _ _ _ _ flags fits event empty _ (rw word at match))
+    (ap Ok c.value.ensures) (rw code at c.configure.ensures)

@@ -1,34 +1,18 @@
--- `read_high` asks the number, then whether the counter is mapped.
-use mathlib.Core.Path.{◌∙◌}
-use borrow.Author.Tests.{not-true, not-false}
-use Rattle.rules.specs.Names.{invalid_param}
+-- `read_high` asks as `read` does.
+use mathlib.Core.Path.{ap}
+use Rattle.std.specs.Prelude.{Ok}
 use Rattle.rules.specs.Replies.{view}
-use Rattle.dispatch.proofs.CounterSetLaws.{over-unread, mapped-read}
-use Rattle.dispatch.proofs.MeetsLaws.{plain-failing, plain-giving}
+use Rattle.dispatch.proofs.CounterSetLaws.{plain-denied}
+use Rattle.dispatch.proofs.MeetsLaws.{plain-giving}
 use Rattle.rules.proofs.CounterWays.{read-high-none, read-high-given}
 use Rattle.dispatch.proofs.pmu.read_high.Goals as goal
 
-pub returns-then-i-ge-COUNTERS : goal.returns-then-i-ge-COUNTERS
+pub returns-in_err-mapped_counter : goal.returns-in_err-mapped_counter
 unfolding view
-returns-then-i-ge-COUNTERS c =
-    plain-failing _ _ c.requires.1 _ _ _ invalid_param
-    (read-high-none _ _ (over-unread _ _ c.if-i-ge-COUNTERS.true))
-    c.invalid_param.ensures
-
-pub returns-then-not-c : goal.returns-then-not-c
-unfolding view
-returns-then-not-c c =
-    let read = c.get_counter-c.ensures in
-    let mapped = mapped-read _ _ c.if-i-ge-COUNTERS.false _ read in
-    plain-failing _ _ c.requires.1 _ _ _ invalid_param
-    (read-high-none _ _ (mapped ∙ not-true _ c.if-not-c.true))
-    c.invalid_param-then-not-c.ensures
+returns-in_err-mapped_counter c =
+    plain-denied _ _ c.requires c.in_err-mapped_counter.ensures (read-high-none _ _) c.from_residual.ensures
 
 pub returns : goal.returns
 unfolding view
 returns c =
-    let read = c.get_counter-c.ensures in
-    let mapped = mapped-read _ _ c.if-i-ge-COUNTERS.false _ read in
-    plain-giving _ _ c.requires.1 _ _ _
-    (read-high-given _ _ (mapped ∙ not-false _ c.if-not-c.false))
-    c.success.ensures
+    plain-giving _ _ c.requires _ _ _ (read-high-given _ _ c.in_ok-mapped_counter.ensures.0) (ap Ok c.value.ensures)

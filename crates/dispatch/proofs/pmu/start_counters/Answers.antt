@@ -1,91 +1,70 @@
 -- `start_counters` makes its checks in order, then starts the set.
-use mathlib.Core.Path.{sym, ◌∙◌}
-use Rattle.rules.specs.Names.{invalid_param, no_shared_memory, already_started}
+use mathlib.Core.Path.{ap, sym, ◌∙◌}
+use borrow.Author.Tests.{ltb-true, ltb-false, not-true, not-false}
+use Rattle.std.specs.Prelude.{Ok}
 use Rattle.rules.specs.Replies.{view}
-use Rattle.dispatch.proofs.CounterSetLaws.{all-by}
-use Rattle.dispatch.proofs.MeetsLaws.{plain-failing, plain-counting}
+use Rattle.dispatch.proofs.CounterSetLaws.{all-by, plain-denied}
+use Rattle.dispatch.proofs.MeetsLaws.{plain-counting, passed, stopped}
 use Rattle.rules.proofs.CounterWays.{counter-start-flags, counter-start-no-counter, counter-start-unmapped}
 use Rattle.rules.proofs.CounterWays.{counter-start-snapshot, counter-start-running, counter-start-given}
 use Rattle.dispatch.proofs.pmu.start_counters.Goals as goal
 
-pub returns-then-flags-ge-SET_FLAGS : goal.returns-then-flags-ge-SET_FLAGS
+pub returns-in_err-ensure : goal.returns-in_err-ensure
 unfolding view
-returns-then-flags-ge-SET_FLAGS c =
-    λ p.
-    plain-failing _ _ c.requires.1.0 _ _ _ invalid_param
-    (counter-start-flags p _ _ _ _ _ c.if-flags-ge-SET_FLAGS.true)
-    c.invalid_param.ensures
+returns-in_err-ensure c =
+    λ p. plain-denied _ _ c.requires.shaped (stopped _ _ c.ensure.ensures c.in_err-ensure.was)
+    (λ n. counter-start-flags p _ _ _ _ _ (ltb-false _ _ n)) c.from_residual.ensures
 
-pub returns-then-not-set_fits : goal.returns-then-not-set_fits
+pub returns-in_err-set : goal.returns-in_err-set
 unfolding view
-returns-then-not-set_fits c =
-    let flags = c.if-flags-ge-SET_FLAGS.false in
-    λ p.
-    plain-failing _ _ c.requires.1.0 _ _ _ invalid_param
-    (counter-start-no-counter p _ _ _ _ _ flags
-    (sym (c.set_fits.ensures p) ∙ c.if-not-set_fits.true))
-    c.invalid_param-then-not-set_fits.ensures
+returns-in_err-set c =
+    let flags = ltb-true _ _ (passed _ _ c.ensure.ensures c.in_ok-ensure.was) in
+    λ p. plain-denied _ _ c.requires.shaped (c.in_err-set.ensures p)
+    (counter-start-no-counter p _ _ _ _ _ flags) c.from_residual-in_err-set.ensures
 
-pub returns-then-not-all_mapped : goal.returns-then-not-all_mapped
+pub returns-in_err-ensure-2 : goal.returns-in_err-ensure-2
 unfolding view
-returns-then-not-all_mapped c =
-    let flags = c.if-flags-ge-SET_FLAGS.false in
+returns-in_err-ensure-2 c =
+    let flags = ltb-true _ _ (passed _ _ c.ensure.ensures c.in_ok-ensure.was) in
     λ p.
-    let fits = sym (c.set_fits.ensures p) ∙ c.if-not-set_fits.false in
-    let word = c.set_word-s.ensures p fits in
-    plain-failing _ _ c.requires.1.0 _ _ _ invalid_param
-    (counter-start-unmapped p _ _ _ _ _ flags fits
-    (all-by _ word c.all_mapped.ensures (c.if-not-all_mapped.true)))
-    c.invalid_param-then-not-all_mapped.ensures
+    let (fits, word) = c.in_ok-set.ensures p in
+    plain-denied _ _ c.requires.shaped (stopped _ _ c.ensure-2.ensures c.in_err-ensure-2.was)
+    (λ n. counter-start-unmapped p _ _ _ _ _ flags fits (all-by _ word c.all_mapped.ensures n))
+    c.from_residual-in_err-ensure-2.ensures
 
-pub returns-then-bit_of : goal.returns-then-bit_of
+pub returns-in_err-ensure-3 : goal.returns-in_err-ensure-3
 unfolding view
-returns-then-bit_of c =
-    let flags = c.if-flags-ge-SET_FLAGS.false in
+returns-in_err-ensure-3 c =
+    let flags = ltb-true _ _ (passed _ _ c.ensure.ensures c.in_ok-ensure.was) in
+    let mapped = passed _ _ c.ensure-2.ensures c.in_ok-ensure-2.was in
     λ p.
-    let fits = sym (c.set_fits.ensures p) ∙ c.if-not-set_fits.false in
-    let word = c.set_word-s.ensures p fits in
-    let mapped = all-by _ word c.all_mapped.ensures (c.if-not-all_mapped.false) in
-    plain-failing _ _ c.requires.1.0 _ _ _ no_shared_memory
-    (counter-start-snapshot p _ _ _ _ _ flags fits mapped
-    (sym c.bit_of.ensures ∙ c.if-bit_of.true))
-    c.no_shared_memory.ensures
+    let (fits, word) = c.in_ok-set.ensures p in
+    plain-denied _ _ c.requires.shaped (stopped _ _ c.ensure-3.ensures c.in_err-ensure-3.was)
+    (λ n. counter-start-snapshot p _ _ _ _ _ flags fits (all-by _ word c.all_mapped.ensures mapped)
+    (sym c.bit_of.ensures ∙ not-false _ n)) c.from_residual-in_err-ensure-3.ensures
 
-pub returns-then-not-none_running : goal.returns-then-not-none_running
+pub returns-in_err-ensure-4 : goal.returns-in_err-ensure-4
 unfolding view
-returns-then-not-none_running c =
-    let flags = c.if-flags-ge-SET_FLAGS.false in
-    let direct = sym c.bit_of.ensures ∙ c.if-bit_of.false in
+returns-in_err-ensure-4 c =
+    let flags = ltb-true _ _ (passed _ _ c.ensure.ensures c.in_ok-ensure.was) in
+    let mapped = passed _ _ c.ensure-2.ensures c.in_ok-ensure-2.was in
+    let direct = sym c.bit_of.ensures ∙ not-true _ (passed _ _ c.ensure-3.ensures c.in_ok-ensure-3.was) in
     λ p.
-    let fits = sym (c.set_fits.ensures p) ∙ c.if-not-set_fits.false in
-    let word = c.set_word-s.ensures p fits in
-    let mapped = all-by _ word c.all_mapped.ensures (c.if-not-all_mapped.false) in
-    plain-failing _ _ c.requires.1.0 _ _ _ already_started
-    (counter-start-running p _ _ _ _ _ flags fits mapped direct
-    (all-by _ word c.none_running.ensures (c.if-not-none_running.true)))
-    c.already_started.ensures
-
-pub start_set-requires : goal.start_set-requires
-start_set-requires c =
-    let p = c.requires in (
-      p.0,
-      (
-        p.1.0,
-        record
-            { fine = p.1.1; mapped = sym c.all_mapped.ensures ∙ c.if-not-all_mapped.false },
-      ),
-    )
+    let (fits, word) = c.in_ok-set.ensures p in
+    plain-denied _ _ c.requires.shaped (stopped _ _ c.ensure-4.ensures c.in_err-ensure-4.was)
+    (λ n. counter-start-running p _ _ _ _ _ flags fits (all-by _ word c.all_mapped.ensures mapped) direct
+    (all-by _ word c.none_running.ensures n)) c.from_residual-in_err-ensure-4.ensures
 
 pub returns : goal.returns
 unfolding view
 returns c =
-    let flags = c.if-flags-ge-SET_FLAGS.false in
-    let direct = sym c.bit_of.ensures ∙ c.if-bit_of.false in
+    let flags = ltb-true _ _ (passed _ _ c.ensure.ensures c.in_ok-ensure.was) in
+    let mapped = passed _ _ c.ensure-2.ensures c.in_ok-ensure-2.was in
+    let direct = sym c.bit_of.ensures ∙ not-true _ (passed _ _ c.ensure-3.ensures c.in_ok-ensure-3.was) in
+    let idle = passed _ _ c.ensure-4.ensures c.in_ok-ensure-4.was in
     λ p.
-    let fits = sym (c.set_fits.ensures p) ∙ c.if-not-set_fits.false in
-    let word = c.set_word-s.ensures p fits in
-    let mapped = all-by _ word c.all_mapped.ensures (c.if-not-all_mapped.false) in
+    let (fits, word) = c.in_ok-set.ensures p in
     plain-counting _ _ _ _ _ _ _
-    (counter-start-given p _ _ _ _ _ flags fits mapped direct
-    (all-by _ word c.none_running.ensures (c.if-not-none_running.false)))
-    c.success.ensures (rw word at c.start_set.ensures)
+    (counter-start-given p _ _ _ _ _ flags fits (all-by _ word c.all_mapped.ensures mapped) direct
+    (all-by _ word c.none_running.ensures idle))
+    (ap Ok c.value.ensures) (rw word at c.start_set.ensures)

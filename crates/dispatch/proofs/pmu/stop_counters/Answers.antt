@@ -1,64 +1,54 @@
 -- `stop_counters` makes its checks in order, then stops the set.
-use mathlib.Core.Path.{sym, ◌∙◌}
-use Rattle.rules.specs.Names.{invalid_param, no_shared_memory, already_stopped}
+use mathlib.Core.Path.{ap, sym, ◌∙◌}
+use borrow.Author.Tests.{ltb-true, ltb-false, not-true, not-false}
+use Rattle.std.specs.Prelude.{Ok}
 use Rattle.rules.specs.Replies.{view}
-use Rattle.dispatch.proofs.CounterSetLaws.{all-by}
-use Rattle.dispatch.proofs.MeetsLaws.{plain-failing, plain-counting}
+use Rattle.dispatch.proofs.CounterSetLaws.{all-by, plain-denied}
+use Rattle.dispatch.proofs.MeetsLaws.{plain-counting, passed, stopped}
 use Rattle.rules.proofs.CounterWays.{counter-stop-flags, counter-stop-no-counter, counter-stop-snapshot}
 use Rattle.rules.proofs.CounterWays.{counter-stop-idle, counter-stop-given}
 use Rattle.dispatch.proofs.pmu.stop_counters.Goals as goal
 
-pub returns-then-flags-ge-SET_FLAGS : goal.returns-then-flags-ge-SET_FLAGS
+pub returns-in_err-ensure : goal.returns-in_err-ensure
 unfolding view
-returns-then-flags-ge-SET_FLAGS c =
-    λ p.
-    plain-failing _ _ c.requires.1.0 _ _ _ invalid_param
-    (counter-stop-flags p _ _ _ _ c.if-flags-ge-SET_FLAGS.true)
-    c.invalid_param.ensures
+returns-in_err-ensure c =
+    λ p. plain-denied _ _ c.requires.shaped (stopped _ _ c.ensure.ensures c.in_err-ensure.was)
+    (λ n. counter-stop-flags p _ _ _ _ (ltb-false _ _ n)) c.from_residual.ensures
 
-pub returns-then-not-set_fits : goal.returns-then-not-set_fits
+pub returns-in_err-set : goal.returns-in_err-set
 unfolding view
-returns-then-not-set_fits c =
-    let flags = c.if-flags-ge-SET_FLAGS.false in
-    λ p.
-    plain-failing _ _ c.requires.1.0 _ _ _ invalid_param
-    (counter-stop-no-counter p _ _ _ _ flags
-    (sym (c.set_fits.ensures p) ∙ c.if-not-set_fits.true))
-    c.invalid_param-then-not-set_fits.ensures
+returns-in_err-set c =
+    let flags = ltb-true _ _ (passed _ _ c.ensure.ensures c.in_ok-ensure.was) in
+    λ p. plain-denied _ _ c.requires.shaped (c.in_err-set.ensures p)
+    (counter-stop-no-counter p _ _ _ _ flags) c.from_residual-in_err-set.ensures
 
-pub returns-then-bit_of : goal.returns-then-bit_of
+pub returns-in_err-ensure-2 : goal.returns-in_err-ensure-2
 unfolding view
-returns-then-bit_of c =
-    let flags = c.if-flags-ge-SET_FLAGS.false in
-    λ p.
-    let fits = sym (c.set_fits.ensures p) ∙ c.if-not-set_fits.false in
-    plain-failing _ _ c.requires.1.0 _ _ _ no_shared_memory
-    (counter-stop-snapshot p _ _ _ _ flags fits
-    (sym c.bit_of.ensures ∙ c.if-bit_of.true))
-    c.no_shared_memory.ensures
+returns-in_err-ensure-2 c =
+    let flags = ltb-true _ _ (passed _ _ c.ensure.ensures c.in_ok-ensure.was) in
+    λ p. plain-denied _ _ c.requires.shaped (stopped _ _ c.ensure-2.ensures c.in_err-ensure-2.was)
+    (λ n. counter-stop-snapshot p _ _ _ _ flags (c.in_ok-set.ensures p).0 (sym c.bit_of.ensures ∙ not-false _ n))
+    c.from_residual-in_err-ensure-2.ensures
 
-pub returns-then-not-all_running : goal.returns-then-not-all_running
+pub returns-in_err-ensure-3 : goal.returns-in_err-ensure-3
 unfolding view
-returns-then-not-all_running c =
-    let flags = c.if-flags-ge-SET_FLAGS.false in
-    let direct = sym c.bit_of.ensures ∙ c.if-bit_of.false in
+returns-in_err-ensure-3 c =
+    let flags = ltb-true _ _ (passed _ _ c.ensure.ensures c.in_ok-ensure.was) in
+    let direct = sym c.bit_of.ensures ∙ not-true _ (passed _ _ c.ensure-2.ensures c.in_ok-ensure-2.was) in
     λ p.
-    let fits = sym (c.set_fits.ensures p) ∙ c.if-not-set_fits.false in
-    let word = c.set_word-s.ensures p fits in
-    plain-failing _ _ c.requires.1.0 _ _ _ already_stopped
-    (counter-stop-idle p _ _ _ _ flags fits direct
-    (all-by _ word c.all_running.ensures (c.if-not-all_running.true)))
-    c.already_stopped.ensures
+    let (fits, word) = c.in_ok-set.ensures p in
+    plain-denied _ _ c.requires.shaped (stopped _ _ c.ensure-3.ensures c.in_err-ensure-3.was)
+    (λ n. counter-stop-idle p _ _ _ _ flags fits direct (all-by _ word c.all_running.ensures n))
+    c.from_residual-in_err-ensure-3.ensures
 
 pub returns : goal.returns
 unfolding view
 returns c =
-    let flags = c.if-flags-ge-SET_FLAGS.false in
-    let direct = sym c.bit_of.ensures ∙ c.if-bit_of.false in
+    let flags = ltb-true _ _ (passed _ _ c.ensure.ensures c.in_ok-ensure.was) in
+    let direct = sym c.bit_of.ensures ∙ not-true _ (passed _ _ c.ensure-2.ensures c.in_ok-ensure-2.was) in
+    let running = passed _ _ c.ensure-3.ensures c.in_ok-ensure-3.was in
     λ p.
-    let fits = sym (c.set_fits.ensures p) ∙ c.if-not-set_fits.false in
-    let word = c.set_word-s.ensures p fits in
+    let (fits, word) = c.in_ok-set.ensures p in
     plain-counting _ _ _ _ _ _ _
-    (counter-stop-given p _ _ _ _ flags fits direct
-    (all-by _ word c.all_running.ensures (c.if-not-all_running.false)))
-    c.success.ensures (rw word at c.stop_set.ensures)
+    (counter-stop-given p _ _ _ _ flags fits direct (all-by _ word c.all_running.ensures running))
+    (ap Ok c.value.ensures) (rw word at c.stop_set.ensures)

@@ -1,91 +1,60 @@
 -- `answer` chooses by the extension.
-use mathlib.Core.Path.{refl, ap}
-use Rattle.rules.specs.Machine.{plain_reply, request_reply}
-use Rattle.rules.specs.Names.{not_supported}
+use mathlib.Core.Path.{refl, sym, ap, ◌∙◌}
+use Rattle.rules.specs.Machine.{request_reply, plain_reply}
 use Rattle.rules.specs.Replies.{view}
 use Rattle.tables.specs.Keeping.{seen}
-use Rattle.dispatch.proofs.MeetsLaws.{plain-failing, by}
+use Rattle.rules.specs.declared.answers.Error.TheVariants.{NotSupported}
 use Rattle.rules.proofs.RequestWays.{request-base, request-ipi, request-rfence, request-hsm, request-pmu}
-use Rattle.rules.proofs.RequestWays.{request-unknown}
-use Rattle.rules.proofs.WellFormed.{enabled-under}
+use Rattle.dispatch.specs.Extensions.{eid_of}
+use Rattle.dispatch.proofs.ExtensionLaws.{asks-nothing}
+use Rattle.dispatch.proofs.MeetsLaws.{plain-failing, by, failed-by}
 use Rattle.dispatch.proofs.running.answer.Goals as goal
 
-pub returns-then-eid-eq-BASE : goal.returns-then-eid-eq-BASE
+pub returns-in-Base : goal.returns-in-Base
 unfolding request_reply
-returns-then-eid-eq-BASE c = let a = c.args in
-    by _ _ _ _ _ _ _ _
-    (ap (request_reply a.p (view (seen a.t.now) a.h) a.h) (request-base a.r c.if-eid-eq-BASE.true))
+returns-in-Base c =
+    let a = c.args in
+    let h = a.h.number in
+    by _ _ _ _ _ _ _ _ (ap (request_reply a.p.now (view (seen a.t.now) h) h) (request-base a.r (sym c.in_ok-try_from.ensures ∙ ap eid_of c.in-Base.is)))
     (c.base.ensures _ _ c.requires.shaped _)
 
-pub ipi-requires : goal.ipi-requires
-ipi-requires c = (
-  enabled-under _ _ c.requires.on,
-  (c.requires.shaped, c.requires.room),
-)
-
-pub returns-then-eid-eq-IPI : goal.returns-then-eid-eq-IPI
+pub returns-in-Ipi : goal.returns-in-Ipi
 unfolding request_reply
-returns-then-eid-eq-IPI c = let a = c.args in
-    by _ _ _ _ _ _ _ _
-    (ap (request_reply a.p (view (seen a.t.now) a.h) a.h)
-    (request-ipi a.r c.if-eid-eq-IPI.true)) c.ipi.ensures
+returns-in-Ipi c =
+    let a = c.args in
+    let h = a.h.number in
+    by _ _ _ _ _ _ _ _ (ap (request_reply a.p.now (view (seen a.t.now) h) h) (request-ipi a.r (sym c.in_ok-try_from.ensures ∙ ap eid_of c.in-Ipi.is)))
+    c.ipi.ensures
 
-pub rfence-requires : goal.rfence-requires
-rfence-requires c = (
-  enabled-under _ _ c.requires.on,
-  (
-    c.requires.shaped,
-    c.requires.room,
-  ),
-)
-
-pub returns-then-eid-eq-RFENCE : goal.returns-then-eid-eq-RFENCE
+pub returns-in-Rfence : goal.returns-in-Rfence
 unfolding request_reply
-returns-then-eid-eq-RFENCE c = let a = c.args in
-    by _ _ _ _ _ _ _ _
-    (ap (request_reply a.p (view (seen a.t.now) a.h) a.h)
-    (request-rfence a.r c.if-eid-eq-RFENCE.true))
+returns-in-Rfence c =
+    let a = c.args in
+    let h = a.h.number in
+    by _ _ _ _ _ _ _ _ (ap (request_reply a.p.now (view (seen a.t.now) h) h) (request-rfence a.r (sym c.in_ok-try_from.ensures ∙ ap eid_of c.in-Rfence.is)))
     c.rfence.ensures
 
-pub hsm-requires : goal.hsm-requires
-hsm-requires c = (
-  enabled-under _ _ c.requires.on,
-  (
-    c.requires.shaped,
-    c.requires.room,
-  ),
-)
-
-pub returns-then-eid-eq-HSM : goal.returns-then-eid-eq-HSM
+pub returns-in-Hsm : goal.returns-in-Hsm
 unfolding request_reply
-returns-then-eid-eq-HSM c = let a = c.args in
-    by _ _ _ _ _ _ _ _
-    (ap (request_reply a.p (view (seen a.t.now) a.h) a.h)
-    (request-hsm a.r c.if-eid-eq-HSM.true)) c.hsm.ensures
+returns-in-Hsm c =
+    let a = c.args in
+    let h = a.h.number in
+    by _ _ _ _ _ _ _ _ (ap (request_reply a.p.now (view (seen a.t.now) h) h) (request-hsm a.r (sym c.in_ok-try_from.ensures ∙ ap eid_of c.in-Hsm.is)))
+    c.hsm.ensures
 
-pub pmu-requires : goal.pmu-requires
-pmu-requires c = (
-  enabled-under _ _ c.requires.on,
-  (
-    c.requires.shaped,
-    c.requires.fine,
-  ),
-)
-
-pub returns-then-eid-eq-PMU : goal.returns-then-eid-eq-PMU
+pub returns-in-Pmu : goal.returns-in-Pmu
 unfolding request_reply
-returns-then-eid-eq-PMU c = let a = c.args in
-    by _ _ _ _ _ _ _ _
-    (ap (request_reply a.p (view (seen a.t.now) a.h) a.h)
-    (request-pmu a.r c.if-eid-eq-PMU.true)) (c.pmu.ensures _)
+returns-in-Pmu c =
+    let a = c.args in
+    let h = a.h.number in
+    by _ _ _ _ _ _ _ _ (ap (request_reply a.p.now (view (seen a.t.now) h) h) (request-pmu a.r (sym c.in_ok-try_from.ensures ∙ ap eid_of c.in-Pmu.is)))
+    (c.pmu.ensures _)
 
-pub returns : goal.returns
+pub returns-in_err-try_from : goal.returns-in_err-try_from
 unfolding request_reply plain_reply
-returns c = let a = c.args in
-    by _ _ _ _ _ _ _ _
-    (ap (request_reply a.p (view (seen a.t.now) a.h) a.h)
-    (request-unknown a.r c.if-eid-eq-BASE.false
-    c.if-eid-eq-IPI.false c.if-eid-eq-RFENCE.false c.if-eid-eq-HSM.false
-    c.if-eid-eq-PMU.false))
-    (plain-failing _ _ c.requires.shaped _ _ _ not_supported refl
-    c.not_supported.ensures _)
+returns-in_err-try_from c =
+    let a = c.args in
+    let h = a.h.number in
+    let none = c.in_err-try_from.ensures in
+    by _ _ _ _ _ _ _ _ (ap (request_reply a.p.now (view (seen a.t.now) h) h) (asks-nothing a.r none.0))
+    (plain-failing _ _ c.requires.shaped _ _ _ NotSupported refl (failed-by _ none.1 c.from_residual.ensures) _)

@@ -8,6 +8,6 @@ pub returns-then-fid-lt7 : goal.returns-then-fid-lt7
 unfolding sent_code
 returns-then-fid-lt7 c = refl
 
-pub returns : goal.returns
+pub returns-else-fid-lt7 : goal.returns-else-fid-lt7
 unfolding sent_code
-returns c = sym (get_or-eq_default sent_codes 0 c.if-fid-lt7.false)
+returns-else-fid-lt7 c = sym (get_or-eq_default sent_codes 0 c.if-fid-lt7.false)

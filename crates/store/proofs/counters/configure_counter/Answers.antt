@@ -2,19 +2,18 @@
 use Rattle.rules.specs.Counters.{configured}
 use Rattle.rules.specs.Tables.{CounterFine}
 use Rattle.rules.specs.declared.records.Counter.{Counter}
-use Rattle.rules.proofs.Logic.{false-true}
-use Rattle.std.proofs.Common.{ℕ, ◌≤◌, sym, refl, subst}
+use Rattle.std.proofs.lemmas.Option.{same_Some}
+use Rattle.std.proofs.Common.{ℕ, ◌≤◌, sym, refl, subst, rules}
 use Rattle.store.proofs.counters.configure_counter.Goals as goal
 
 fine : (flags e : ℕ) (c : Counter) → e ≤ 21 → CounterFine (configured flags e c)
 unfolding configured
-fine flags e c l = record { codes = λ _. l; runs = λ _. refl; canonical = λ q. absurd (false-true (sym q)) }
+fine flags e c l = record { codes = λ k q. subst (λ (n : ℕ). n ≤ 21) (same_Some e k q) l; runs = λ _. refl }
 
 pub write_counter-requires : goal.write_counter-requires
 write_counter-requires c =
-    let k = c.requires in
-    (k.0, (k.1.0, subst CounterFine (sym c.configured.ensures) (fine _ _ _ k.1.1)))
+    (c.requires, (search rules, subst CounterFine (sym c.configured.ensures) (fine _ _ _ (search rules))))
 
 pub returns : goal.returns
 returns c =
-    rw (c.configured.ensures, c.read_counter.ensures) at c.write_counter.ensures
+    rw (c.configured.ensures, c.read_counter.ensures, c.index-i.ensures) at c.write_counter.ensures

@@ -5,7 +5,7 @@ use Rattle.store.proofs.counters.count_row.Goals as goal
 use Rattle.store.proofs.counters.count_row.Goals.{then-control-want, else-control-want}
 
 pub returns-then-control-eq0 : goal.returns-then-control-eq0
-returns-then-control-eq0 c = none-mapped _ _ c.requires.0 c.if-control-eq0.true
+returns-then-control-eq0 c = none-mapped _ _ c.requires c.if-control-eq0.true
 
 pub loop-i-init : goal.loop-i-init
 loop-i-init c = (search rules, start _ _)
@@ -19,14 +19,14 @@ loop-i-preserved c =
       (
         rw add-one
             (elim c.if-control-want.branch [
-              | then-control-want w ↦ cc (turn-hit a.r.now l.i a.code l.control e w.if-control-want.true)
-              | else-control-want w ↦ cc (turn-miss a.r.now l.i a.code l.control e w.if-control-want.false)
+              | then-control-want w ↦ cc (turn-hit a.r.now l.i a.code.number l.control e w.if-control-want.true)
+              | else-control-want w ↦ cc (turn-miss a.r.now l.i a.code.number l.control e w.if-control-want.false)
             ]),
-        rw add-one (turn-rest a.r.now l.i a.code l.control e),
+        rw add-one (turn-rest a.r.now l.i a.code.number l.control e),
       ),
     )
 
 pub returns : goal.returns
 returns c =
     let e : c.loop-i.i ≡ 8 = omega arith in
-    rw (rw e at c.loop-i.invariant.1.0) (counted-held _ _ c.requires.0)
+    rw (rw e at c.loop-i.invariant.1.0) (counted-held _ _ c.requires)

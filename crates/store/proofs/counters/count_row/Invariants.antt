@@ -5,7 +5,7 @@ use Rattle.std.proofs.Common.{◌≡◌, ◌-◌, ◌≤◌, get_or}
 use Rattle.store.proofs.counters.count_row.Given as goal
 
 abbrev pub invariant-loop-i : goal.invariant-loop-i
-invariant-loop-i l = (l.i ≤ 8) × ((l.r ≡ counted_to l.i l.initial.r l.code) × (l.control ≡ past (get_or l.initial.r 3 0) l.i))
+invariant-loop-i l = (l.i ≤ 8) × ((l.r ≡ counted_to l.i l.initial.r l.fn.code.number) × (l.control ≡ past (get_or l.initial.r 3 0) l.i))
 
 abbrev pub decreases-loop-i : goal.decreases-loop-i
 decreases-loop-i l = 8 - l.i

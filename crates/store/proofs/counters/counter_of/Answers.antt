@@ -1,13 +1,13 @@
 -- `counter_of` tells the three kinds of control byte apart.
 use Rattle.store.proofs.RowLaws.{of_none, of-stopped, of-running}
-use Rattle.std.proofs.Common.{sym, arith}
+use Rattle.std.proofs.Common.{sym, rules}
 use Rattle.store.proofs.counters.counter_of.Goals as goal
 
-pub returns-then-b-eq0 : goal.returns-then-b-eq0
-returns-then-b-eq0 c = sym (of_none _ _ c.if-b-eq0.true)
+pub returns-in-0 : goal.returns-in-0
+returns-in-0 c = sym (of_none _ _ (search rules))
 
-pub returns-then-b-lt-RUNNING_CODE : goal.returns-then-b-lt-RUNNING_CODE
-returns-then-b-lt-RUNNING_CODE c = sym (of-stopped _ _ (omega (arith, c.if-b-eq0.false)) c.if-b-lt-RUNNING_CODE.true)
+pub returns-in-1-to-22 : goal.returns-in-1-to-22
+returns-in-1-to-22 c = sym (of-stopped _ _ (search rules) (search rules))
 
-pub returns : goal.returns
-returns c = sym (of-running _ _ c.if-b-lt-RUNNING_CODE.false)
+pub returns-in_default : goal.returns-in_default
+returns-in_default c = sym (of-running _ _ (search rules))

@@ -2,16 +2,15 @@
 use Rattle.store.proofs.ViewLaws.{alter-own-holds}
 use Rattle.store.specs.Seen.{row_of}
 use Rattle.store.specs.Sets.{configure_at}
+use Rattle.std.proofs.Common.{rules}
 use Rattle.store.proofs.keeping.configure.Goals as goal
 
 pub configure_counter-requires : goal.configure_counter-requires
-configure_counter-requires c =
-    let k = c.requires in
-    (row_of _ k.1.1.1 _ k.0, (k.1.0, k.1.1.0))
+configure_counter-requires c = row_of _ c.requires _ (search rules)
 
 pub returns : goal.returns
 returns c =
     let a = c.args in
-    let k = c.requires in
-    alter-own-holds a.t.now k.1.1.1 a.h k.0
-    (configure_at a.flags a.code a.i) _ c.configure_counter.ensures
+    rw c.index.ensures
+    (alter-own-holds a.t.now c.requires a.h.number (search rules) (configure_at a.flags a.code.number a.i.number) _
+    (rw c.index.ensures at c.configure_counter.ensures))

@@ -3,17 +3,16 @@ use Rattle.store.proofs.ViewLaws.{alter-own-holds}
 use Rattle.store.specs.Seen.{row_of}
 use Rattle.rules.specs.Tables.{own_at}
 use Rattle.rules.specs.Replies.{counted, count_at}
-use Rattle.std.proofs.Common.{map}
+use Rattle.std.proofs.Common.{map, rules}
 use Rattle.store.proofs.keeping.count.Goals as goal
 
 pub count_row-requires : goal.count_row-requires
-count_row-requires c =
-    let k = c.requires in
-    (row_of _ k.1.1 _ k.0, k.1.0)
+count_row-requires c = row_of _ c.requires _ (search rules)
 
 pub returns : goal.returns
 unfolding count_at own_at
 returns c =
     let a = c.args in
-    let k = c.requires in
-    alter-own-holds a.t.now k.1.1 a.h k.0 (map (counted a.code)) _ c.count_row.ensures
+    rw c.index.ensures
+    (alter-own-holds a.t.now c.requires a.h.number (search rules) (map (counted a.code.number)) _
+    (rw c.index.ensures at c.count_row.ensures))

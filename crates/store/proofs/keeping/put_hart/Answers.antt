@@ -1,15 +1,12 @@
 -- `put_hart` writes the hart's row.
 use Rattle.store.proofs.ViewLaws.{put-hart-holds}
 use Rattle.store.specs.Seen.{row_of}
+use Rattle.std.proofs.Common.{rules}
 use Rattle.store.proofs.keeping.put_hart.Goals as goal
 
 pub pack-requires : goal.pack-requires
-pack-requires c =
-    let k = c.requires in
-    (row_of _ k.1.1 _ k.0, k.1.0)
+pack-requires c = (row_of _ c.requires.1 _ (search rules), c.requires.0)
 
 pub returns : goal.returns
-returns c =
-    let a = c.args in
-    let k = c.requires in
-    put-hart-holds a.t.now k.1.1 a.h k.0 _ a.x c.pack.ensures
+returns c = rw c.index.ensures (put-hart-holds c.args.t.now c.requires.1 c.args.h.number (search rules) _ c.args.x
+    (rw c.index.ensures at c.pack.ensures))

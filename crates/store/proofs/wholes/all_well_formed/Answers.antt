@@ -8,7 +8,8 @@ returns c =
     let a = c.args in
     let n = c.requires in
     let low = c.half_well_formed.ensures in
-    let high = c.half_well_formed-2.ensures in (
-      c.both.ensures ∙ halves-test a.p a.t.now _ _ n low high,
-      halves-shaped a.p a.t.now _ _ n low high,
-    )
+    let high = c.half_well_formed-2.ensures in
+    record {
+      answer = c.both.ensures ∙ halves-test a.p.now a.t.now _ _ n low high;
+      shape = halves-shaped a.p.now a.t.now _ _ n low high;
+    }

@@ -1,17 +1,28 @@
 -- `HartSet::has` asks the word that holds the hart.
 use Rattle.rules.specs.Choice.{when◌then◌else◌}
 use Rattle.rules.specs.Platform.{has}
+use Prim.Native.Nat.{◌<◌, ◌≤◌}
+use native.Mathlib.Omega.{arith}
+use borrow.Author.Rules.{rules}
 use borrow.Author.Tests.{lt-ltb, le-ltb}
 use Rattle.rules.proofs.platform.HartSet.has.Goals as goal
 
-pub returns-then-h-lt64 : goal.returns-then-h-lt64
+pub returns-in-0-to-63 : goal.returns-in-0-to-63
 unfolding has when◌then◌else◌
-returns-then-h-lt64 c = simp (lt-ltb _ _ c.if-h-lt64.true) c.bit_of.ensures
+returns-in-0-to-63 c =
+    let l : c.args.h < 64 = search rules in
+    simp (lt-ltb _ _ l) c.bit_of.ensures
 
-pub returns-then-h-lt-HARTS : goal.returns-then-h-lt-HARTS
+pub returns-in-64-to-127 : goal.returns-in-64-to-127
 unfolding has when◌then◌else◌
-returns-then-h-lt-HARTS c = simp (lt-ltb _ _ c.if-h-lt-HARTS.true, le-ltb _ _ c.if-h-lt64.false) c.bit_of-then-h-lt-HARTS.ensures
+returns-in-64-to-127 c =
+    let u : 64 ≤ c.args.h = search rules in
+    let l : c.args.h < 128 = search rules in
+    simp (le-ltb _ _ u, lt-ltb _ _ l) c.bit_of-in-64-to-127.ensures
 
-pub returns : goal.returns
+pub returns-in_default : goal.returns-in_default
 unfolding has when◌then◌else◌
-returns c = simp (le-ltb _ _ c.if-h-lt-HARTS.false, le-ltb _ _ c.if-h-lt64.false)
+returns-in_default c =
+    let u : 128 ≤ c.args.h = search rules in
+    let v : 64 ≤ c.args.h = omega (arith, u) in
+    simp (le-ltb _ _ v, le-ltb _ _ u)

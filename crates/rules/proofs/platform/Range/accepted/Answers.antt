@@ -6,14 +6,13 @@ use native.Mathlib.Omega.{arith}
 use borrow.Author.Tests.{lt-ltb, le-ltb}
 use Rattle.rules.proofs.platform.Range.accepted.Goals as goal
 
-pub returns-then-self-eq0 : goal.returns-then-self-eq0
+pub returns-else-self-gt0 : goal.returns-else-self-gt0
 unfolding range_accepted
-returns-then-self-eq0 c = rw (le-ltb 0 c.args.self.length (omega (arith, c.if-self-eq0.true)))
+returns-else-self-gt0 c = rw (le-ltb 0 c.args.self.length c.if-self-gt0.false)
 
-pub returns : goal.returns
+pub returns-then-self-gt0 : goal.returns-then-self-gt0
 unfolding range_accepted
-returns c =
+returns-then-self-gt0 c =
     let r = c.args.self in
-    let n : 0 < r.length = omega (arith, c.if-self-eq0.false) in
     let b : r.base < 2 ^ 64 = omega arith in
-    rw (lt-ltb 0 r.length n) (ends-under r.base r.length n b)
+    rw (lt-ltb 0 r.length c.if-self-gt0.true) (ends-under r.base r.length c.if-self-gt0.true b)

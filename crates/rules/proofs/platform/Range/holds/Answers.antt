@@ -6,8 +6,8 @@ use Rattle.rules.proofs.platform.Range.holds.Goals as goal
 
 pub returns-then-a-self : goal.returns-then-a-self
 unfolding lies_in
-returns-then-a-self c = simp (lt-leb _ _ c.if-a-self.true)
+returns-then-a-self c = simp (le-leb _ _ c.if-a-self.true) (under-sum _ _ _ c.if-a-self.true)
 
-pub returns : goal.returns
+pub returns-else-a-self : goal.returns-else-a-self
 unfolding lies_in
-returns c = simp (le-leb _ _ c.if-a-self.false) (under-sum _ _ _ c.if-a-self.false)
+returns-else-a-self c = simp (lt-leb _ _ c.if-a-self.false)

@@ -1,45 +1,30 @@
 -- `Hart::done` goes from each of the four pending states, and from no other.
+use mathlib.Core.Logic.{inl, inr}
 use Rattle.rules.specs.Choice.{when◌then◌else◌}
 use Rattle.rules.specs.Harts.{done_of}
-use borrow.Author.Tests.{eq-eqb, ne_eqb}
+use borrow.Author.Rules.{rules}
+use borrow.Author.Tests.{ne_eqb}
+use Rattle.std.specs.Prelude.{◌≢◌}
 use Rattle.rules.proofs.records.Hart.done.Goals as goal
 
-pub returns-then-s-eq-START_PENDING : goal.returns-then-s-eq-START_PENDING
+pub returns-in-2 : goal.returns-in-2
 unfolding done_of when◌then◌else◌
-returns-then-s-eq-START_PENDING c = rw (c.in_state.ensures, eq-eqb _ _ c.if-s-eq-START_PENDING.true)
+returns-in-2 c = elim c.in-2.is [ inl e ↦ rw (c.in_state.ensures, e) | inr e ↦ rw (c.in_state.ensures, e) ]
 
-pub returns-then-s-eq-STOP_PENDING : goal.returns-then-s-eq-STOP_PENDING
+pub returns-in-3 : goal.returns-in-3
 unfolding done_of when◌then◌else◌
-returns-then-s-eq-STOP_PENDING c = rw (c.in_state-then-s-eq-STOP_PENDING.ensures, ne_eqb _ _ c.if-s-eq-START_PENDING.false, eq-eqb _ _ c.if-s-eq-STOP_PENDING.true)
+returns-in-3 c = rw (c.in_state-in-3.ensures, c.in-3.is)
 
-pub returns-then-s-eq-SUSPEND_PENDING : goal.returns-then-s-eq-SUSPEND_PENDING
+pub returns-in-5 : goal.returns-in-5
 unfolding done_of when◌then◌else◌
-returns-then-s-eq-SUSPEND_PENDING c = rw (
-  c.in_state-then-s-eq-SUSPEND_PENDING.ensures,
-  ne_eqb _ _ c.if-s-eq-START_PENDING.false,
-  ne_eqb _ _
-      c.if-s-eq-STOP_PENDING.false,
-  eq-eqb _ _ c.if-s-eq-SUSPEND_PENDING.true,
-)
+returns-in-5 c = rw (c.in_state-in-5.ensures, c.in-5.is)
 
-pub returns-then-s-eq-RESUME_PENDING : goal.returns-then-s-eq-RESUME_PENDING
+pub returns-in_default : goal.returns-in_default
 unfolding done_of when◌then◌else◌
-returns-then-s-eq-RESUME_PENDING c = rw (
-  c.in_state-then-s-eq-RESUME_PENDING.ensures,
-  ne_eqb _ _ c.if-s-eq-START_PENDING.false,
-  ne_eqb _ _
-      c.if-s-eq-STOP_PENDING.false,
-  ne_eqb _ _ c.if-s-eq-SUSPEND_PENDING.false,
-  eq-eqb _ _
-      c.if-s-eq-RESUME_PENDING.true,
-)
-
-pub returns : goal.returns
-unfolding done_of when◌then◌else◌
-returns c = rw (
-  ne_eqb _ _ c.if-s-eq-START_PENDING.false,
-  ne_eqb _ _ c.if-s-eq-STOP_PENDING.false,
-  ne_eqb _ _
-      c.if-s-eq-SUSPEND_PENDING.false,
-  ne_eqb _ _ c.if-s-eq-RESUME_PENDING.false,
-)
+returns-in_default c =
+    let s = c.args.self.state in
+    let n2 : s ≢ 2 = search rules in
+    let n3 : s ≢ 3 = search rules in
+    let n5 : s ≢ 5 = search rules in
+    let n6 : s ≢ 6 = search rules in
+    rw (ne_eqb _ _ n2, ne_eqb _ _ n3, ne_eqb _ _ n5, ne_eqb _ _ n6)

@@ -7,6 +7,6 @@ pub returns-then-retentive : goal.returns-then-retentive
 unfolding suspend_of when◌then◌else◌
 returns-then-retentive c = rw c.if-retentive.true
 
-pub returns : goal.returns
+pub returns-else-retentive : goal.returns-else-retentive
 unfolding suspend_of when◌then◌else◌
-returns c = rw c.if-retentive.false
+returns-else-retentive c = rw c.if-retentive.false

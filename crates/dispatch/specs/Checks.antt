@@ -1,0 +1,7 @@
+-- A test that an error or a refusal waits for.
+use Rattle.std.specs.Prelude.{Bool, true, false, Result, Ok, Err}
+
+module _ {E : Type 0} where
+  abbrev pub ensured : Bool → E → Result (Unit {0}) E
+  ensured true e = Ok tt
+  ensured false e = Err e

@@ -1,9 +1,0 @@
--- `put_number`: at most twenty digits.
-use Rattle.std.proofs.Common.{◌-◌, ◌≤◌}
-use Rattle.transcript.proofs.lines.put_number.Given as goal
-
-abbrev pub invariant-loop-i : goal.invariant-loop-i
-invariant-loop-i l = l.i ≤ 20
-
-abbrev pub decreases-loop-i : goal.decreases-loop-i
-decreases-loop-i l = 20 - l.i

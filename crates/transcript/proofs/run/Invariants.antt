@@ -1,5 +1,0 @@
--- `run`: the turns go down.
-use Rattle.transcript.proofs.run.Given as goal
-
-abbrev pub decreases-loop-turns : goal.decreases-loop-turns
-decreases-loop-turns l = l.turns
