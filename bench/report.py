@@ -6,7 +6,7 @@ import bisect
 import re
 import sys
 
-TEST = {"ours": "tables::well_formed", "twin": "twin::well_formed"}
+TEST = {"ours": "store::wholes::well_formed", "twin": "twin::well_formed"}
 LIMITS = {"4": 3500, "128": 2800}
 # What a selection's walk is taken from: the same call that selects nobody.
 WALKS = {"interrupt": "interrupt_0", "sfence_vma": "sfence_vma_0", "hfence_gvma": "hfence_gvma_0"}

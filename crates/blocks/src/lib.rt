@@ -10,7 +10,7 @@ use std::array;
 pub type Block = [u64; 64];
 
 // What a record asks for.
-#[derive(Clone, Copy)]
+#[derive(Clone, Copy, Debug, PartialEq, Eq)]
 pub enum Record {
     Unused,
     Call { hart: u64, registers: Registers },

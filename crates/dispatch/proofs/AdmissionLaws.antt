@@ -4,6 +4,7 @@ use mathlib.Core.Bool.{true, false}
 use mathlib.Core.List.{List}
 use Prim.Native.Nat.{ℕ}
 use lib.Dec.{ltb}
+use Rattle.std.specs.Cmp.{first_so, second_so}
 use Rattle.rules.specs.Names.{action_memory}
 use Rattle.rules.specs.Tables.{Tables, well_formed}
 use Rattle.rules.specs.Answers.{Answer}
@@ -13,7 +14,6 @@ use Rattle.rules.specs.Machine.{Operation, hart_of, is_short, enabled_reply, che
 use Rattle.rules.specs.declared.platform.Platform.{Platform}
 use Rattle.rules.specs.declared.answers.Refusal.{Refusal}
 use Rattle.rules.proofs.HostWays.{checked-short, checked-not-enabled, checked-enabled}
-use Rattle.rules.proofs.Logic.{and_l, and_r}
 use Rattle.tables.specs.Keeping.{seen, Shaped}
 use Rattle.dispatch.specs.Meets.{Denied, short, off, Meets, WellFormed}
 use Rattle.dispatch.proofs.MeetsLaws.{by}
@@ -41,6 +41,6 @@ pub vouched : (p : Platform) (t : List (List ℕ)) → Shaped t → well_formed 
 unfolding well_formed
 vouched p t s w = record {
   shaped = s;
-  accepted = and_l (platform_accepted p) _ w;
-  fine = and_r (platform_accepted p) _ w;
+  accepted = first_so (platform_accepted p) _ w;
+  fine = second_so (platform_accepted p) _ w;
 }

@@ -7,6 +7,8 @@ use Prim.Native.Nat.{ℕ, ◌*◌}
 use lib.Dec.{eqb}
 use lib.ListN.{length, take, drop}
 use borrow.Author.Tests.{not-false, ltb-false, le-leb}
+use Rattle.std.proofs.lemmas.Bool.{false≢true}
+use Rattle.std.specs.Cmp.Derive.{both_true}
 use Rattle.rules.specs.Replies.{words_of, view, Reply, refused, failed, did, accepted, answer_of, actions_of, front_of}
 use Rattle.rules.specs.Replies.{memory_after}
 use Rattle.rules.specs.Names.{STARTED, action_memory}
@@ -18,17 +20,15 @@ use Rattle.rules.specs.Machine.{Operation, call, request_reply, enabled_reply, c
 use Rattle.rules.specs.Machine.{reply}
 use Rattle.rules.specs.Rows.{passes, ready}
 use Rattle.rules.specs.Refusals.{Listed, listed-refusal, listed-error, no-refusal}
-use Rattle.rules.specs.Answers.{Answer, error_number}
+use Rattle.rules.specs.Answers.{Answer, count_in, error_number}
 use Rattle.rules.specs.declared.answers.Error.{Error}
 use Rattle.rules.specs.declared.answers.Error.TheVariants.{NotSupported, InvalidParam, InvalidAddress}
 use Rattle.rules.specs.declared.answers.Error.TheVariants.{AlreadyAvailable, AlreadyStarted, AlreadyStopped}
 use Rattle.rules.specs.declared.answers.Error.TheVariants.{NoSharedMemory}
 use Rattle.rules.specs.declared.answers.Registers.{Registers}
 use Rattle.rules.specs.declared.platform.Platform.{Platform}
-use Rattle.rules.proofs.Logic.{and-of, false-true}
 use Rattle.rules.proofs.Passed.{if-did, accepted-did}
 use Rattle.rules.proofs.Theorems.{front-exact}
-use Rattle.dispatch.specs.Meets.{count_in}
 use Rattle.dispatch.specs.Steps.{is_zero, is_success}
 use Rattle.dispatch.specs.Conditions.{ListedAnswer, answers-refusal, answers-error}
 use Rattle.dispatch.proofs.LayingLaws.{words-length}
@@ -76,7 +76,7 @@ pub answer-listed : {op : Operation} {q : Reply} → Listed op q → accepted q 
 unfolding answer_of
 answer-listed (listed-refusal i) e = answers-refusal i
 answer-listed (listed-error i) e = answers-error i
-answer-listed no-refusal e = absurd (false-true (sym e))
+answer-listed no-refusal e = absurd (false≢true (sym e))
 
 -- ----- a status call that is done was ready
 
@@ -93,5 +93,5 @@ status-ready p t room k q asked yes' =
     let long = if-did _ _ _ d well.1 in
     let on = if-did _ _ (enabled_reply p (view t k) (call room k q)) d long.1 in
     let started = if-did _ _ (request_reply p (view t k) k (request q)) d on.1 in
-    and-of (le-leb action_memory room (ltb-false room action_memory long.0))
-    (and-of (not-false (eqb (state_of t.harts k) STARTED) started.0) (status-passes p (request q) q.a0 asked))
+    both_true (le-leb action_memory room (ltb-false room action_memory long.0))
+    (both_true (not-false (eqb (state_of t.harts k) STARTED) started.0) (status-passes p (request q) q.a0 asked))

@@ -13,6 +13,8 @@ use borrow.Author.Tests.{ltb-true, eqb-true, lt-ltb, lt-leb, le-leb, eq-eqb, ne_
 use Rattle.std.specs.Prelude.{Result, Ok, Err, is_some}
 use Rattle.std.specs.Result.{IsErr, IsErrAnd}
 use Rattle.std.proofs.lemmas.Result.{err_from_is_err_and}
+use Rattle.std.proofs.lemmas.Bool.{false_from_ne_true}
+use Rattle.std.specs.Cmp.{both_ways}
 use Rattle.rules.specs.Names.{counters}
 use Rattle.rules.specs.Sets.{bit, numbers, names, all}
 use Rattle.rules.specs.Counters.{counter_set, is_counter, is_mapped, can_read}
@@ -25,7 +27,7 @@ use Rattle.rules.specs.declared.answers.Error.{Error}
 use Rattle.rules.specs.declared.answers.Error.TheVariants.{InvalidParam}
 use Rattle.rules.specs.declared.platform.Platform.{Platform}
 use Rattle.rules.specs.declared.records.Counter.{Counter}
-use Rattle.rules.proofs.Logic.{clash, below_or, false-if, same_test}
+use Rattle.rules.proofs.Logic.{clash, below_or}
 use Rattle.rules.proofs.SetLaws.{those-ext}
 use Rattle.rules.proofs.Ascending.{all_in, all_of, numbers-in, numbers-only, numbers-those}
 use Rattle.rules.proofs.platform.BitLaws.{bits-one}
@@ -76,7 +78,7 @@ module _ (b m : ℕ) where
       unset : (i : ℕ) → bit m (counters - b + i) ≡ false
       unset i =
           below_or (counters - b + i) 64
-          (λ l. false-if (bit m (counters - b + i))
+          (λ l. false_from_ne_true (bit m (counters - b + i))
           (λ e.
           let t = numbers-in 64 b m (counters - b + i) l e in
           let k : b + (counters - b + i) < counters = ltb-true _ _ (all_in is_counter (numbers 64 b m) a t) in
@@ -121,7 +123,7 @@ module _ (b m : ℕ) where
     fits_word : all is_counter (counter_set p b m) ≡ eqb (m / 2 ^ (counters - b)) 0
     unfolding is_counter counter_set
     fits_word =
-        same_test _ _
+        both_ways _ _
         (λ a. eq-eqb _ _ (nothing-past s a))
         (λ e. all_of is_counter (numbers 64 b m) (λ h t. lt-ltb h counters (small (eqb-true _ _ e) h t)))
 

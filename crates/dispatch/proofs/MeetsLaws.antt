@@ -21,7 +21,7 @@ use Rattle.rules.specs.declared.answers.Denial.TheVariants.{Refused, Failed}
 use Rattle.std.specs.Prelude.{Result, Ok, Err, Option, Some, None}
 use Rattle.rules.specs.Platform.{enabled, HartGiven}
 use Rattle.rules.specs.declared.platform.Platform.{Platform}
-use Rattle.rules.specs.declared.ids.HartId.{HartId}
+use Rattle.rules.specs.Numbers.{HartId}
 use Rattle.std.proofs.lemmas.Result.{err_from_is_err_and}
 use Rattle.std.specs.Result.{IsErr, IsErrAnd}
 use Rattle.dispatch.specs.Checks.{ensured}
@@ -101,6 +101,12 @@ unfolding own_at
 own_back s h = set-get_or s.counters h []
 
 -- ----- something is altered
+
+-- what meets one plain answer meets another that is it
+module _ (t t' : List (List ℕ)) (m m' : List ℕ) (h : ℕ) (r : Answer) where
+  pub plain-as : {w w' : Plain} → w ≡ w' → Meets t t' m m' h (plain (view (seen t) h) w') r
+      → Meets t t' m m' h (plain (view (seen t) h) w) r
+  plain-as e k = rw e k
 
 module _ (t t' : List (List ℕ)) (h : ℕ) where
   -- the caller's counters, and a value

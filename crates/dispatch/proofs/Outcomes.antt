@@ -3,6 +3,8 @@ use mathlib.Core.Path.{◌≡◌, refl, sym, ap, ◌∙◌, subst}
 use mathlib.Core.Bool.{Bool, true, false}
 use mathlib.Core.List.{List, [], ◌∷◌}
 use Prim.Native.Nat.{ℕ}
+use Rattle.std.specs.Cmp.Derive.{both_true}
+use Rattle.std.specs.Cmp.{second_so}
 use Rattle.rules.specs.Platform.{platform_accepted}
 use Rattle.rules.specs.Tables.{Tables, well_formed, tables_well_formed}
 use Rattle.rules.specs.Machine.{after, reply, checked_reply, hart_of}
@@ -11,7 +13,6 @@ use Rattle.rules.specs.declared.platform.Platform.{Platform}
 use Rattle.tables.proofs.Laws.{held-once}
 use Rattle.rules.proofs.Theorems.{well-formed-kept}
 use Rattle.rules.proofs.HostWays.{reply-checked}
-use Rattle.rules.proofs.Logic.{and-of, and_r}
 use Rattle.dispatch.proofs.MeetsLaws.{by}
 use Rattle.dispatch.specs.Steps.{Run, no_step, first_step}
 use Rattle.dispatch.specs.Outcomes.{CheckedAgree, ContractsStep, FreshRowsFollow, OneFresh, OneFront}
@@ -75,12 +76,12 @@ unfolding after well_formed
 checked-agree p op t t' m m' a w x =
     let replied = reply-checked p (seen t) op w.accepted w.fine in
     let met = by t t' m m' (hart_of op) (reply p (seen t) op) (checked_reply p (seen t) op) a replied x in
-    let well = well-formed-kept p (seen t) op (and-of w.accepted w.fine) in
+    let well = well-formed-kept p (seen t) op (both_true w.accepted w.fine) in
     record {
       same = met;
       well = record {
         shaped = met.tables.shaped;
         accepted = w.accepted;
-        fine = ap (tables_well_formed p) met.tables.is ∙ and_r (platform_accepted p) _ well;
+        fine = ap (tables_well_formed p) met.tables.is ∙ second_so (platform_accepted p) _ well;
       };
     }

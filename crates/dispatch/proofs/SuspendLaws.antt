@@ -7,18 +7,19 @@ use Prim.Native.Nat.{ℕ}
 use lib.Dec.{eqb}
 use lib.ListN.{set}
 use borrow.Author.Tests.{eqb-true, eqb-false}
+use Rattle.std.proofs.lemmas.Bool.{false≢true}
 use Rattle.rules.specs.Names.{retentive_type, non_retentive_type}
 use Rattle.rules.specs.Platform.{valid_address}
 use Rattle.rules.specs.Harts.{suspend_of, suspend_reply}
 use Rattle.rules.specs.Replies.{View, failed, moves}
 use Rattle.rules.specs.declared.platform.Platform.{Platform}
 use Rattle.rules.specs.declared.answers.Error.TheVariants.{InvalidParam, InvalidAddress}
-use Rattle.rules.proofs.Logic.{by_cases, false-true, or_right}
+use Rattle.rules.proofs.Logic.{by_cases, or_right}
 use Rattle.rules.proofs.HartWays.{suspend-retentive, suspend-no-type, suspend-nowhere, suspend-given}
 
 -- neither of two tests
 neither : (a b : Bool) → (a || b) ≡ false → (a ≡ false) × (b ≡ false)
-neither true b e = absurd (false-true (sym e))
+neither true b e = absurd (false≢true (sym e))
 neither false b e = (refl, e)
 
 module _ (p : Platform) (v : View) (h y a o : ℕ) where

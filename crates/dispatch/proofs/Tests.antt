@@ -10,12 +10,13 @@ use borrow.Author.Tests.{eq-eqb, eqb-true, lt-ltb, ltb-true}
 use Rattle.std.specs.List.{list_all, range_with_len}
 use Rattle.std.proofs.lemmas.List.Folds.{list_all-append}
 use Rattle.std.proofs.lemmas.Bool.Decides.{nat_tests}
+use Rattle.std.specs.Cmp.{both_ways}
 use Rattle.rules.specs.Choice.{when◌then◌else◌}
 use Rattle.rules.specs.Masks.{selects}
 use Rattle.rules.specs.Platform.{enabled}
 use Rattle.rules.specs.Sets.{bit, every, names, ones}
 use Rattle.rules.specs.declared.platform.Platform.{Platform}
-use Rattle.rules.proofs.Logic.{if-true, if-false, same_test}
+use Rattle.rules.proofs.Logic.{choice}
 use Rattle.rules.proofs.ReachWays.{hypervisors-by-hart}
 use Rattle.rules.proofs.WellFormed.{enabled-over}
 
@@ -36,7 +37,7 @@ every-list f (suc n) =
 
 pub shifted_out : (a w : ℕ) → eqb (a / 2 ^ w) 0 ≡ ltb a (2 ^ w)
 shifted_out a w =
-    same_test (eqb (a / 2 ^ w) 0) (ltb a (2 ^ w))
+    both_ways (eqb (a / 2 ^ w) 0) (ltb a (2 ^ w))
     (λ y. lt-ltb a (2 ^ w) (quotient-zero a (2 ^ w) (one-le-pow w 2 (omega arith)) (eqb-true (a / 2 ^ w) 0 y)))
     (λ y. eq-eqb (a / 2 ^ w) 0 (div-eq_of_lt (ltb-true a (2 ^ w) y)))
   where
@@ -52,9 +53,7 @@ word_below a w fits wide =
 
 pub ruleset of_widths = (shifted_out, word_below, nat_tests)
 
--- ----- choices by tests, and tests of one hart
-
-pub ruleset choices = (if-true, if-false, nat_tests)
+-- ----- tests of one hart
 
 pub selects-opened : (p : Platform) (m base h : ℕ)
     → selects p m base h
@@ -62,4 +61,4 @@ pub selects-opened : (p : Platform) (m base h : ℕ)
 unfolding selects names
 selects-opened p m base h = refl
 
-pub ruleset of_harts = (choices, selects-opened, enabled-over, hypervisors-by-hart)
+pub ruleset of_harts = (choice, selects-opened, enabled-over, hypervisors-by-hart)

@@ -13,14 +13,13 @@ use Rattle.rules.specs.Rows.{◌does◌, event_of, row_now, ready}
 use Rattle.rules.specs.Refusals.{errors_of, refusals_of}
 use Rattle.rules.specs.Promises.{LivesOf, Alike}
 use Rattle.tables.specs.Keeping.{seen, Shaped, Holds}
-use Rattle.rules.specs.Answers.{done, Answer}
+use Rattle.rules.specs.Answers.{done, Answer, count_in}
 use Rattle.rules.specs.declared.answers.Error.{Error}
 use Rattle.rules.specs.declared.answers.Refusal.{Refusal}
 use Rattle.rules.specs.declared.answers.Denial.TheVariants.{Refused, Failed}
 use Rattle.rules.specs.declared.answers.Registers.{Registers}
 use Rattle.rules.specs.declared.platform.Platform.{Platform}
 use Rattle.std.specs.Borrow.{MutBor}
-use Rattle.dispatch.specs.Meets.{count_in}
 use Rattle.dispatch.specs.Steps.{Step, Run, Freshens, HandsBack, is_success}
 
 -- ----- condition 1

@@ -5,7 +5,6 @@
 --   Ready p t m h           what a function behind the host's tests may rely on
 --   WellFormed p t          what a function behind the test of the tables may rely on
 --   Admitted p room h o     what a hart number is taken for: H4, H2, or the hart
---   count_in                the number of actions in an answer
 --   told_one, told          the tables once one hart, or some, were told of an event
 --   put_action              memory with one action put at a place
 use Rattle.std.specs.Prelude.{◌≡◌, List, [], ◌∷◌, ◌++◌, true, false, ℕ, ◌+◌, ◌≤◌, length, take, drop}
@@ -16,7 +15,7 @@ use Rattle.rules.specs.Tables.{Tables, tables_well_formed}
 use Rattle.rules.specs.Replies.{Reply, tell_one, tell, commit, answer_of, memory_after}
 use Rattle.tables.specs.Keeping.{seen, Shaped, Holds}
 use Rattle.rules.specs.Answers.{Answer}
-use Rattle.rules.specs.declared.ids.HartId.{HartId}
+use Rattle.rules.specs.Numbers.{HartId}
 use Rattle.rules.specs.declared.answers.Refusal.{Refusal}
 use Rattle.rules.specs.declared.answers.Refusal.TheVariants.{ShortMemory, NotEnabled}
 use Rattle.rules.specs.declared.actions.Action.{Action}
@@ -63,7 +62,3 @@ abbrev pub Admitted : Platform → (room h : ℕ) → Result HartId Refusal → 
 Admitted p room h (Ok x) =
     (ltb room action_memory ≡ false) × ((enabled p h ≡ true) × (x.number ≡ h))
 Admitted p room h (Err k) = Denied p room h k
-
-abbrev pub count_in : Answer → ℕ
-count_in (Ok d) = d.actions
-count_in (Err d) = 0

@@ -12,11 +12,11 @@ use Rattle.rules.specs.Platform.{platform_accepted}
 use Rattle.rules.specs.Machine.{Operation, call, completion, waking, event, hart_of, reply}
 use Rattle.rules.specs.Machine.{fresh_answer}
 use Rattle.tables.specs.Keeping.{seen, FreshOr}
-use Rattle.rules.specs.Answers.{error_number, Answer}
+use Rattle.rules.specs.Answers.{error_number, Answer, count_in}
 use Rattle.rules.specs.declared.answers.Denial.TheVariants.{Refused, Failed}
 use Rattle.rules.specs.declared.platform.Platform.{Platform}
 use Rattle.std.specs.Borrow.{MutBor}
-use Rattle.dispatch.specs.Meets.{Meets, count_in}
+use Rattle.dispatch.specs.Meets.{Meets}
 
 -- calls, completions and wakes lend action memory; an event lends none, so any memory stands by
 abbrev pub Lent : Operation → List ℕ → Type 0

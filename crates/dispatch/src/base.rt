@@ -22,7 +22,8 @@ fn probe(eid: u64) -> u64
     }
 }
 
-// "Base, seven functions: version ..; probe ..; the rest come from the platform."
+// "Base, seven functions: version ..; probe ..; the rest come from the platform." By number, as in
+// `hsm`.
 pub fn base(p: &Platform, r: Registers) -> Answer
     ensures { (t : List (List ℕ)) (h : ℕ) → Shaped t
         → Keeps t h (plain (view (seen t) h)

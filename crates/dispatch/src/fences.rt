@@ -1,7 +1,7 @@
 // Interrupts and remote fences.
 ghost use Rattle.std.specs.Prelude.{◌≡◌, ◌+◌, ◌<◌, ◌≤◌, ◌^◌, ltb, length, true};
-ghost use Rattle.rules.specs.Names.{action_memory, fence_kind};
-ghost use Rattle.rules.specs.Masks.{selected, selection_fits};
+ghost use Rattle.rules.specs.Names.{action_memory, fence_kind, last_code};
+ghost use Rattle.rules.specs.Masks.{selected, selection_fits, reached, send_to};
 ghost use Rattle.rules.specs.Fences.{id_valid, hypervisors_fit, range_valid, interrupt_reply};
 ghost use Rattle.rules.specs.Fences.{fence_reply, function_of};
 ghost use Rattle.rules.specs.Replies.{view, plain};
@@ -28,7 +28,7 @@ fn is_below(id: u64, width: u64) -> bool
 }
 
 // "ASID or VMID below 2^width (-3)"
-#[tactic(auto, using(crate::proofs::Tests::choices), unfolding(rules::specs::Fences::id_valid))]
+#[tactic(auto, using(rules::proofs::Logic::choice), unfolding(rules::specs::Fences::id_valid))]
 fn id_valid(p: &Platform, fence: Fence, id: u64) -> bool
     ensures { result ≡ id_valid p.now (function_of fence) id }
 {
@@ -54,11 +54,38 @@ fn hypervisors_fit(p: &Platform, fence: Fence, whom: Selection) -> bool
 
 // "The range is the whole space if start and size are both 0, or size is 2^64 - 1 with any start.
 // Otherwise start + size may be at most 2^64."
-#[tactic(auto, using(crate::proofs::Tests::choices), unfolding(rules::specs::Fences::range_valid))]
+#[tactic(auto, unfolding(rules::specs::Fences::range_valid))]
 fn range_valid(start: u64, size: u64) -> bool
     ensures { result ≡ range_valid 64 start size }
 {
     size == 0 || size == ALL_ONES || start <= ALL_ONES - (size - 1)
+}
+
+// What an interrupt and a fence do once their checks have passed: an action for each reached hart,
+// and the events of each but the caller. Never a call of its own: with its frame the deepest stack
+// would be past its limit.
+#[inline(always)]
+fn deliver(
+    p: &Platform,
+    t: &mut Rows,
+    actions: &mut [u64],
+    h: HartId,
+    whom: Selection,
+    like: Action,
+    code: EventCode,
+) -> Answer
+    requires shaped { Shaped t.old }
+    requires room { action_memory ≤ length actions.old }
+    requires fit { selection_fits p.now whom.mask whom.base ≡ true }
+    requires sent { code.number < last_code }
+    ensures { Meets t.old t.new actions.old actions.new h.number
+        (plain (view (seen t.old) h.number)
+        (send_to like.kind like.start like.size like.id code.number
+        (reached p.now (view (seen t.old) h.number).harts whom.mask whom.base))) result }
+{
+    let n = lay(p, t, actions, whom, like);
+    tell(p, t, whom, h, code);
+    Ok(Success::actions(n))
 }
 
 // An interrupt: "2 interrupt (three zeros)", sent code 6.
@@ -76,17 +103,10 @@ pub fn interrupt(
         (interrupt_reply p.now (view (seen t.old) h.number) whom.mask whom.base)) result }
 {
     ensure(whom.fits(p), Error::InvalidParam)?;
-    let n = lay(p, t, actions, whom, Action::interrupt(0));
-    tell(
-        p,
-        t,
-        whom,
-        h,
-        EventCode {
-            number: INTERRUPT_SENT,
-        },
-    );
-    Ok(Success::actions(n))
+    let code = EventCode {
+        number: INTERRUPT_SENT,
+    };
+    deliver(p, t, actions, h, whom, Action::interrupt(0), code)
 }
 
 // A remote fence: "Order: harts (-3), ASID or VMID below 2^width (-3), hypervisor extension on
@@ -112,9 +132,7 @@ fn send(
     ensure(id_valid(p, fence, like.id), Error::InvalidParam)?;
     ensure(hypervisors_fit(p, fence, whom), Error::NotSupported)?;
     ensure(range_valid(like.start, like.size), Error::InvalidAddress)?;
-    let n = lay(p, t, actions, whom, like);
-    tell(p, t, whom, h, fence.sent());
-    Ok(Success::actions(n))
+    deliver(p, t, actions, h, whom, like, fence.sent())
 }
 
 // Remote fences by function: "FENCE.I has no range"; functions 2, 3 and 5 have an ASID or VMID.

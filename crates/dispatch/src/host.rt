@@ -7,7 +7,8 @@ ghost use Rattle.rules.specs.Machine.{call, completion, waking, event, reply, fr
 ghost use Rattle.rules.specs.declared.answers.Refusal.TheVariants.{NotWellFormed};
 ghost use Rattle.tables.specs.Keeping.{seen, Shaped, FreshOr};
 ghost use Rattle.dispatch.specs.Checks.{ensured};
-ghost use Rattle.dispatch.specs.Meets.{Meets, count_in};
+ghost use Rattle.rules.specs.Answers.{count_in};
+ghost use Rattle.dispatch.specs.Meets.{Meets};
 
 use crate::checked;
 use crate::checks::ensure;

@@ -17,11 +17,12 @@ use rules::numbers::{NON_RETENTIVE, RETENTIVE, START_PENDING, STOP_PENDING, STOP
 use rules::platform::Platform;
 use tables::Rows;
 
-// "Status (FID 2). -3 for a hart not enabled, else its state."
-pub fn status(p: &Platform, t: &Rows, h: HartId, target: u64) -> Answer
+// "Status (FID 2). -3 for a hart not enabled, else its state." The caller h, of whom a start's and a
+// status's contract speak alone, may be any number.
+pub fn status(p: &Platform, t: &Rows, h: u64, target: u64) -> Answer
     requires { Shaped t.now }
-    ensures { Keeps t.now h.number (plain (view (seen t.now) h.number)
-        (status_reply p.now (view (seen t.now) h.number) target)) result }
+    ensures { Keeps t.now h (plain (view (seen t.now) h)
+        (status_reply p.now (view (seen t.now) h) target)) result }
 {
     let target = p.hart(target).ok_or(Error::InvalidParam)?;
     let x = tables::get_hart(t, target);
@@ -34,15 +35,15 @@ pub fn start(
     p: &Platform,
     t: &mut Rows,
     actions: &mut [u64],
-    h: HartId,
+    h: u64,
     target: u64,
     address: u64,
     opaque: u64,
 ) -> Answer
     requires shaped { Shaped t.old }
     requires room { action_memory ≤ length actions.old }
-    ensures { Meets t.old t.new actions.old actions.new h.number
-        (start_reply p.now (view (seen t.old) h.number) target address opaque) result }
+    ensures { Meets t.old t.new actions.old actions.new h
+        (start_reply p.now (view (seen t.old) h) target address opaque) result }
 {
     let target = p.hart(target).ok_or(Error::InvalidParam)?;
     let x = tables::get_hart(t, target);
@@ -65,7 +66,8 @@ pub fn stop(t: &mut Rows, h: HartId) -> Answer
 }
 
 // "Type 0 is retentive and ignores the address; type 0x80000000 is not. Every other type is -3 ..
-// Then, for the non-retentive type, address (-5). To SUSPEND_PENDING; 0, 0, parked."
+// Then, for the non-retentive type, address (-5). To SUSPEND_PENDING; 0, 0, parked." The type is
+// the number as it came: what it stands for is asked here alone, and is the one bit `retentive`.
 pub fn suspend(
     p: &Platform,
     t: &mut Rows,
@@ -86,7 +88,8 @@ pub fn suspend(
     Ok(Success::parked())
 }
 
-// Hart states by function. Suspend: "Only the low 32 bits of a0 are read."
+// Hart states by function, matched as the number that a6 holds: an enum would be made here, to be
+// matched at once. Suspend: "Only the low 32 bits of a0 are read."
 pub fn hsm(p: &Platform, t: &mut Rows, actions: &mut [u64], h: HartId, r: Registers) -> Answer
     requires shaped { Shaped t.old }
     requires room { action_memory ≤ length actions.old }
@@ -94,9 +97,9 @@ pub fn hsm(p: &Platform, t: &mut Rows, actions: &mut [u64], h: HartId, r: Regist
         (request_reply p.now (view (seen t.old) h.number) h.number (hart_request r)) result }
 {
     match r.a6 {
-        0 => start(p, t, actions, h, r.a0, r.a1, r.a2),
+        0 => start(p, t, actions, h.number, r.a0, r.a1, r.a2),
         1 => stop(t, h),
-        2 => status(p, t, h, r.a0),
+        2 => status(p, t, h.number, r.a0),
         3 => suspend(p, t, h, r.a0 % 4294967296, r.a1, r.a2),
         _ => Err(Error::NotSupported.into()),
     }

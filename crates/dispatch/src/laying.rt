@@ -4,7 +4,8 @@ ghost use Rattle.dispatch.specs.Meets.{put_action};
 
 use rules::actions::Action;
 
-// "An action is five words: target, kind, start, size, id."
+// "An action is five words: target, kind, start, size, id." Five stores, not a copy of an array made
+// for it, which takes some 15 instructions more for each action, and the deepest stack past its limit.
 pub fn put_action(out: &mut [u64], at: usize, a: Action)
     requires { at + 5 ≤ length out.old }
     ensures { out.new ≡ put_action out.old at a }

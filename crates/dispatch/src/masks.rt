@@ -78,7 +78,7 @@ impl Selection {
 }
 
 // "A selected hart is reached unless STOPPED or STOP_PENDING (house)."
-#[tactic(auto, using(crate::proofs::Tests::choices), unfolding(rules::specs::Masks::is_reached))]
+#[tactic(auto, unfolding(rules::specs::Masks::is_reached))]
 fn is_reached(t: &Rows, h: HartId) -> bool
     ensures { result ≡ is_reached (seen t.now).harts h.number }
 {
@@ -114,7 +114,7 @@ pub fn lay(p: &Platform, t: &Rows, out: &mut [u64], whom: Selection, like: Actio
 
 // One sent event at the caller and one received event at hart k, unless they are one. "Received is
 // sent + 1."
-#[tactic(auto, using(crate::proofs::Tests::choices), unfolding(rules::specs::Replies::tell_one))]
+#[tactic(auto, using(rules::proofs::Logic::choice), unfolding(rules::specs::Replies::tell_one))]
 fn tell_one(t: &mut Rows, caller: HartId, code: EventCode, k: HartId)
     requires shaped { Shaped t.old }
     requires sent { code.number < last_code }
@@ -133,7 +133,8 @@ fn tell_one(t: &mut Rows, caller: HartId, code: EventCode, k: HartId)
 }
 
 // "For each reached hart other than the caller, the caller has one sent event and the target one
-// received event."
+// received event." It asks each hart anew: the rows that it asks are those that it writes, so that
+// no iterator over the reached harts could lend them to `lay` and to it.
 pub fn tell(p: &Platform, t: &mut Rows, whom: Selection, caller: HartId, code: EventCode)
     requires shaped { Shaped t.old }
     requires sent { code.number < last_code }

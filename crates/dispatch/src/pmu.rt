@@ -29,18 +29,29 @@ const SET_FLAGS: u64 = 4;
 // "bit 1 (-9)" of start and stop.
 const SNAPSHOT_BIT: u64 = 1;
 
-// The word of a set, "bit i is counter base + i without wrapping; numbers over 7 are -3": bit base +
-// i of it for that counter.
-fn counter_set(base: u64, mask: u64) -> Result<u64, Error>
-    ensures { (p : Platform) → SetGiven p base mask result }
-{
-    if mask == 0 {
-        return Ok(0);
+// A set of counters by its base and its mask, as a0 and a1 hold them. It is no `Selection`: "Here
+// base 2^64 - 1 has no special meaning."
+#[derive(Clone, Copy, Debug, PartialEq, Eq)]
+struct CounterSet {
+    base: u64,
+    mask: u64,
+}
+
+impl CounterSet {
+    // Its word, "bit i is counter base + i without wrapping; numbers over 7 are -3": bit base + i
+    // of it for that counter.
+    fn word(self) -> Result<u64, Error>
+        ensures { (p : Platform) → SetGiven p self.base self.mask result }
+    {
+        let (base, mask) = (self.base, self.mask);
+        if mask == 0 {
+            return Ok(0);
+        }
+        if base < COUNTERS && mask >> (COUNTERS - base) == 0 {
+            return Ok(mask << base);
+        }
+        Err(Error::InvalidParam)
     }
-    if base < COUNTERS && mask >> (COUNTERS - base) == 0 {
-        return Ok(mask << base);
-    }
-    Err(Error::InvalidParam)
 }
 
 // "Details: 2^63 for counters 0 to 7, else -3."
@@ -82,22 +93,15 @@ fn read_high(t: &Rows, h: HartId, i: u64) -> Answer
 
 // "Configure: flags above bit 7 (-3), counters (-3), event (-2), event data (-3), match (-2)." "The
 // value returned is the counter."
-fn configure(
-    t: &mut Rows,
-    h: HartId,
-    base: u64,
-    mask: u64,
-    flags: u64,
-    event: u64,
-    datum: u64,
-) -> Answer
+fn configure(t: &mut Rows, h: HartId, set: CounterSet, flags: u64, event: u64, datum: u64) -> Answer
     requires { Shaped t.old }
     ensures { (p : Platform) (m : List ℕ) → Meets t.old t.new m m h.number
         (plain (view (seen t.old) h.number)
-        (configure_reply p (view (seen t.old) h.number).own base mask flags event datum)) result }
+        (configure_reply p (view (seen t.old) h.number).own set.base set.mask flags event datum))
+        result }
 {
     ensure(flags < CONFIGURE_FLAGS, Error::InvalidParam)?;
-    let set = counter_set(base, mask)?;
+    let set = set.word()?;
     let code = EventCode::of_event(event)?;
     ensure(datum == 0, Error::InvalidParam)?;
     let i = tables::match_counter(t, h, set, flags).ok_or(Error::NotSupported)?;
@@ -107,15 +111,16 @@ fn configure(
 
 // "Start: flags above bit 1 (-3), counters (-3), an unmapped counter (-3, house), bit 1 (-9), any
 // running (-7). All or none (house)."
-fn start_counters(t: &mut Rows, h: HartId, base: u64, mask: u64, flags: u64, initial: u64) -> Answer
+fn start_counters(t: &mut Rows, h: HartId, set: CounterSet, flags: u64, initial: u64) -> Answer
     requires shaped { Shaped t.old }
     requires fine { Fine (own_at (seen t.old) h.number) }
     ensures { (p : Platform) (m : List ℕ) → Meets t.old t.new m m h.number
         (plain (view (seen t.old) h.number)
-        (counter_start_reply p (view (seen t.old) h.number).own base mask flags initial)) result }
+        (counter_start_reply p (view (seen t.old) h.number).own set.base set.mask flags initial))
+        result }
 {
     ensure(flags < SET_FLAGS, Error::InvalidParam)?;
-    let set = counter_set(base, mask)?;
+    let set = set.word()?;
     ensure(tables::all_mapped(t, h, set), Error::InvalidParam)?;
     ensure(!bit_of(flags, SNAPSHOT_BIT), Error::NoSharedMemory)?;
     ensure(tables::none_running(t, h, set), Error::AlreadyStarted)?;
@@ -124,15 +129,15 @@ fn start_counters(t: &mut Rows, h: HartId, base: u64, mask: u64, flags: u64, ini
 }
 
 // "Stop: flags above bit 1 (-3), counters (-3), bit 1 (-9), any not running (-8). All or none."
-fn stop_counters(t: &mut Rows, h: HartId, base: u64, mask: u64, flags: u64) -> Answer
+fn stop_counters(t: &mut Rows, h: HartId, set: CounterSet, flags: u64) -> Answer
     requires shaped { Shaped t.old }
     requires fine { Fine (own_at (seen t.old) h.number) }
     ensures { (p : Platform) (m : List ℕ) → Meets t.old t.new m m h.number
         (plain (view (seen t.old) h.number)
-        (counter_stop_reply p (view (seen t.old) h.number).own base mask flags)) result }
+        (counter_stop_reply p (view (seen t.old) h.number).own set.base set.mask flags)) result }
 {
     ensure(flags < SET_FLAGS, Error::InvalidParam)?;
-    let set = counter_set(base, mask)?;
+    let set = set.word()?;
     ensure(!bit_of(flags, SNAPSHOT_BIT), Error::NoSharedMemory)?;
     ensure(tables::all_running(t, h, set), Error::AlreadyStopped)?;
     tables::stop_set(t, h, set, flags);
@@ -140,7 +145,7 @@ fn stop_counters(t: &mut Rows, h: HartId, base: u64, mask: u64, flags: u64) -> A
 }
 
 // What PMU function a6 answers: "Any other EID or FID, compared over all 64 bits of a7 and a6
-// (house), answers -2", and functions 7 and 8 too.
+// (house), answers -2", and functions 7 and 8 too. By number, as in `hsm`.
 pub fn pmu(p: &Platform, t: &mut Rows, h: HartId, r: Registers) -> Answer
     requires shaped { Shaped t.old }
     requires fine { tables_well_formed p.now (seen t.old) ≡ true }
@@ -148,12 +153,16 @@ pub fn pmu(p: &Platform, t: &mut Rows, h: HartId, r: Registers) -> Answer
         (plain (view (seen t.old) h.number)
         (plain_reply p.now (view (seen t.old) h.number) (counter_request r))) result }
 {
+    let set = CounterSet {
+        base: r.a0,
+        mask: r.a1,
+    };
     match r.a6 {
         0 => Ok(Success::value(COUNTERS)),
         1 => details(r.a0),
-        2 => configure(t, h, r.a0, r.a1, r.a2, r.a3, r.a4),
-        3 => start_counters(t, h, r.a0, r.a1, r.a2, r.a3),
-        4 => stop_counters(t, h, r.a0, r.a1, r.a2),
+        2 => configure(t, h, set, r.a2, r.a3, r.a4),
+        3 => start_counters(t, h, set, r.a2, r.a3),
+        4 => stop_counters(t, h, set, r.a2),
         5 => read(t, h, r.a0),
         6 => read_high(t, h, r.a0),
         _ => Err(Error::NotSupported.into()),

@@ -21,7 +21,12 @@ use rules::ids::HartId;
 use rules::platform::Platform;
 use tables::Rows;
 
-// The call of the running hart h, by its extension.
+// The call of the running hart h, by its extension. From here on each function takes the platform,
+// the rows, the action memory and the hart side by side: its contract speaks of each of them by
+// itself, and a struct of these references would have to promise besides that it still holds the
+// caller's. So the shape of the rows and the length of the action memory stand in the contracts of
+// those that write: both are told of memory that is the host's (`Meets` speaks of every word of it,
+// also of those past 640).
 pub fn answer(p: &Platform, t: &mut Rows, actions: &mut [u64], h: HartId, r: Registers) -> Answer
     requires { Ready p.now t.old actions.old h.number }
     ensures { Meets t.old t.new actions.old actions.new h.number

@@ -7,6 +7,8 @@ use native.Mathlib.Omega.{arith}
 use lib.Dec.{ltb, leb, eqb}
 use lib.ListN.{get_or-eq_default}
 use borrow.Author.Tests.{eqb-true, eq-eqb, le-ltb, leb-true}
+use Rattle.std.specs.Cmp.{first_so, second_so}
+use Rattle.std.proofs.lemmas.Bool.{not_from_true}
 use Rattle.rules.specs.Choice.{when◌then◌else◌}
 use Rattle.rules.specs.Names.{STARTED, STOPPED, action_memory, harts, retentive_type, non_retentive_type}
 use Rattle.rules.specs.Platform.{enabled}
@@ -20,10 +22,9 @@ use Rattle.rules.specs.Lives.{Event, start, done, wake}
 use Rattle.rules.specs.Rows.{◌does◌, life_event, request_event, event_of, passes, ready}
 use Rattle.rules.specs.declared.platform.Platform.{Platform}
 use Rattle.rules.specs.declared.records.Hart.{Hart}
-use Rattle.std.specs.Prelude.{Option}
-use Rattle.std.specs.Prelude.{Some}
+use Rattle.std.specs.Prelude.{Option, Some}
 use Rattle.rules.specs.declared.actions.Action.{Action}
-use Rattle.rules.proofs.Logic.{if-false, if-both, by_cases, below_or, and_l, and_r, or_right, not-of}
+use Rattle.rules.proofs.Logic.{if-false, if-both, by_cases, below_or, or_right}
 use Rattle.rules.proofs.Readings.{Place, name, Goes, g-start, g-started, g-suspended, g-wake, g-woken}
 use Rattle.rules.proofs.Readings.{g-stopped}
 use Rattle.rules.proofs.Effects.{Stands}
@@ -51,14 +52,15 @@ life-accepts : (p : Platform) (v : View) (h : ℕ) (q : LifeRequest) → passes 
     → Accepted (life_reply p v h q)
 unfolding passes life_reply start_reply stop_reply suspend_reply
 life-accepts p v h (hart_start k a o) ok g =
-    pass _ (not-of g.0) (pass _ (not-of (eq-eqb _ _ g.1)) (pass _ (not-of ok) (moves-accepted v _ _ _)))
+    pass _ (not_from_true _ g.0)
+    (pass _ (not_from_true _ (eq-eqb _ _ g.1)) (pass _ (not_from_true _ ok) (moves-accepted v _ _ _)))
 life-accepts p v h hart_stop ok g = moves-accepted v _ _ _
 life-accepts p v h (hart_suspend y a o) ok g =
     if-both Accepted (eqb y retentive_type) (λ e. moves-accepted v _ _ _)
     (λ e.
     let w = or_right (eqb y retentive_type) _ ok e in
-    pass _ (not-of (and_l (eqb y non_retentive_type) _ w))
-    (pass _ (not-of (and_r (eqb y non_retentive_type) _ w)) (moves-accepted v _ _ _)))
+    pass _ (not_from_true _ (first_so (eqb y non_retentive_type) _ w))
+    (pass _ (not_from_true _ (second_so (eqb y non_retentive_type) _ w)) (moves-accepted v _ _ _)))
 
 -- an outcome that allows the event
 data Allowed : Option Hart → Type 0 where
@@ -125,19 +127,19 @@ module _ (p : Platform) (t : Tables) (fine : TablesWellFormed p t) (h : ℕ) (e 
       → Accepted (checked_reply p t op)
   unfolding ready checked_reply enabled_reply done_reply wake_reply view
   checked-accepts (call room k r) i ok =
-      let w = and_r (leb action_memory room) _ ok in
-      let s : eqb (state_of t.harts k) STARTED ≡ true = and_l (eqb (state_of t.harts k) STARTED) _ w in
-      pass _ (long-enough room (and_l _ _ ok))
-      (pass _ (not-of (running-enabled p t fine k (eqb-true _ _ s))) (pass _ (not-of s)
-      (request-accepts k (request r) i (and_r (eqb (state_of t.harts k) STARTED) _ w))))
+      let w = second_so (leb action_memory room) _ ok in
+      let s : eqb (state_of t.harts k) STARTED ≡ true = first_so (eqb (state_of t.harts k) STARTED) _ w in
+      pass _ (long-enough room (first_so _ _ ok))
+      (pass _ (not_from_true _ (running-enabled p t fine k (eqb-true _ _ s))) (pass _ (not_from_true _ s)
+      (request-accepts k (request r) i (second_so (eqb (state_of t.harts k) STARTED) _ w))))
   checked-accepts (completion room k) i ok =
       let kh : k ≡ h = cc in
       let on-k : enabled p k ≡ true = rw kh on in
-      pass _ (long-enough room ok) (pass _ (not-of on-k)
+      pass _ (long-enough room ok) (pass _ (not_from_true _ on-k)
       (goes_on-accepts (view t k) k _ (done-goes (hart_at t.harts k) (at-event cc) (at-hart kh))))
   checked-accepts (waking room k) i ok =
       let kh : k ≡ h = cc in
       let on-k : enabled p k ≡ true = rw kh on in
-      pass _ (long-enough room ok) (pass _ (not-of on-k)
+      pass _ (long-enough room ok) (pass _ (not_from_true _ on-k)
       (goes_on-accepts (view t k) k _ (wake-goes (hart_at t.harts k) (at-event cc) (at-hart kh))))
   checked-accepts (event k c) i ok = let z : ◌≡◌ {A = ℕ} 0 1 = cc in absurd (omega arith)

@@ -9,7 +9,8 @@ use lib.Seq.{take-append_seam, drop-append_seam}
 use lib.ListN.{length}
 use lib.Dec.{eqb}
 use borrow.Author.Tests.{eqb-true}
-use Rattle.rules.specs.Replies.{laid, Done, Reply, View, actions_of, answer_of, did, front_of, memory_after, view}
+use Rattle.rules.specs.Answers.{count_in, parked_in}
+use Rattle.rules.specs.Replies.{accepted, failed, laid, refused, Done, Reply, View, actions_of, answer_of, did, front_of, memory_after, pair_of, view}
 use Rattle.rules.specs.Replies.{words_of}
 use Rattle.rules.specs.Counters.{event_reply}
 use Rattle.rules.specs.Requests.{hart_start, PlainRequest, Request, base_request, counter_request, hart_request}
@@ -194,10 +195,24 @@ parked-exactly p t (waking room h) d e =
 parked-exactly p t (event h c) d e =
     plain-parked (view t h) _ d (if-did _ _ _ d (did-passed p t (event h c) d e).replied).1
 
-pub answers-exact : AnswersExact
+bare-of : (r : Reply) → accepted r ≡ false → (parked_in (answer_of r) ≡ false) × (count_in (answer_of r) ≡ 0)
 unfolding answer_of
-answers-exact p t op = record
-    { refusal = λ k e. ap answer_of e; error = λ x e. ap answer_of e; done = λ d e. ap answer_of e }
+bare-of (refused k) e = (refl, refl)
+bare-of (failed x) e = (refl, refl)
+bare-of (did d) e = cc
+
+pub answers-exact : AnswersExact
+unfolding answer_of pair_of
+answers-exact p t op =
+    record {
+      refusal = λ k e. ap answer_of e;
+      error = λ x e. ap answer_of e;
+      done = λ d e. ap answer_of e;
+      bare = bare-of (reply p t op);
+      no_pair = λ k e. ap (λ r. pair_of (answer_of r)) e;
+      error_pair = λ x e. ap (λ r. pair_of (answer_of r)) e;
+      done_pair = λ d e. ap (λ r. pair_of (answer_of r)) e;
+    }
 
 -- ----- they fit, and are laid at the front
 

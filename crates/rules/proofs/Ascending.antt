@@ -9,10 +9,11 @@ use Prim.Native.Nat.{ℕ, zero, suc, ◌+◌, ◌-◌, ◌<◌, ◌≤◌, zero-
 use native.Mathlib.Omega.{arith}
 use lib.Dec.{ltb, leb}
 use borrow.Author.Tests.{leb-true, ltb-true, le-leb, lt-ltb}
+use Rattle.std.specs.Cmp.Derive.{both_true}
+use Rattle.std.specs.Cmp.{first_so, second_so, both_ways}
 use Rattle.rules.specs.Sets.{every, bit, those, numbers, names, Above, Ascending, keep, all}
 use Rattle.rules.proofs.SetLaws.{every-at, every_of, those-in, those-only}
-use Rattle.rules.proofs.Logic.{not-or-inv, not-or, same_test, if-true, if-false, if-both, by_cases, and_l}
-use Rattle.rules.proofs.Logic.{and_r, and-of}
+use Rattle.rules.proofs.Logic.{not-or-inv, not-or, if-true, if-false, if-both, by_cases}
 
 -- ----- ascending lists
 
@@ -109,13 +110,14 @@ pub all_in : {A : Type 0} (f : A → Bool) {i : A} (l : List A) → all f l ≡ 
 unfolding all
 all_in f [] a m = absurd (mathlib.Core.List.Memᴰ.not-nil m)
 all_in {A} f (x ∷ l) a m =
-    ⊎_elim (λ q. subst (λ (k : A). f k ≡ true) (sym q) (and_l (f x) _ a)) (λ t. all_in f l (and_r (f x) _ a) t)
+    ⊎_elim (λ q. subst (λ (k : A). f k ≡ true) (sym q) (first_so (f x) _ a)) (λ t. all_in f l (second_so (f x) _ a) t)
     (mathlib.Core.List.Memᴰ.cases_cons m)
 
 pub all_of : {A : Type 0} (f : A → Bool) (l : List A) → ((i : A) → Memᴰ i l → f i ≡ true) → all f l ≡ true
 unfolding all
 all_of f [] h = refl
-all_of f (x ∷ l) h = and-of (h x (mathlib.Core.List.Memᴰ.head refl)) (all_of f l (λ i m. h i (mathlib.Core.List.Memᴰ.tail m)))
+all_of f (x ∷ l) h =
+    both_true (h x (mathlib.Core.List.Memᴰ.head refl)) (all_of f l (λ i m. h i (mathlib.Core.List.Memᴰ.tail m)))
 
 -- a number that a mask selects is base + i for a set bit i, summed without wrapping
 pub numbers-in : (w base m i : ℕ) → i < w → bit m i ≡ true → Memᴰ (base + i) (numbers w base m)
@@ -136,16 +138,16 @@ pub names_of : (w base m i : ℕ) → i < w → bit m i ≡ true → names w bas
 unfolding names
 names_of w base m i l e =
     let back : base + i - base ≡ i = omega arith in
-    and-of (le-leb base (base + i) (omega arith)) (rw back (and-of (lt-ltb i w l) e))
+    both_true (le-leb base (base + i) (omega arith)) (rw back (both_true (lt-ltb i w l) e))
 
 pub names-inv : (w base m h : ℕ) → names w base m h ≡ true → Memᴰ h (numbers w base m)
 unfolding names
 names-inv w base m h e =
-    let low : base ≤ h = leb-true base h (and_l _ _ e) in
-    let r = and_r (leb base h) (ltb (h - base) w && bit m (h - base)) e in
+    let low : base ≤ h = leb-true base h (first_so _ _ e) in
+    let r = second_so (leb base h) (ltb (h - base) w && bit m (h - base)) e in
     let sum : base + (h - base) ≡ h = omega arith in
     subst (λ (k : ℕ). Memᴰ k (numbers w base m)) sum
-    (numbers-in w base m (h - base) (ltb-true (h - base) w (and_l _ _ r)) (and_r (ltb (h - base) w) _ r))
+    (numbers-in w base m (h - base) (ltb-true (h - base) w (first_so _ _ r)) (second_so (ltb (h - base) w) _ r))
 
 -- where each number of a mask is below n, the mask's numbers are those below n that it names
 pub numbers-those : (w base m n : ℕ) → ((h : ℕ) → Memᴰ h (numbers w base m) → h < n)
@@ -167,15 +169,15 @@ keep-those f g n =
     (λ h t.
     let r = keep-only f (those n g) t in
     let s = those-only g n h r.0 in
-    those-in (λ k. g k && f k) n h s.0 (and-of s.1 r.1))
+    those-in (λ k. g k && f k) n h s.0 (both_true s.1 r.1))
     (λ h t.
     let r = those-only (λ k. g k && f k) n h t in
-    keep-in f (those n g) (those-in g n h r.0 (and_l _ _ r.1)) (and_r (g h) (f h) r.1))
+    keep-in f (those n g) (those-in g n h r.0 (first_so _ _ r.1)) (second_so (g h) (f h) r.1))
 
 -- to ask all of those is to ask every number that is one of them
 pub all-those : (f g : ℕ → Bool) (n : ℕ) → all f (those n g) ≡ every n (λ h. not (g h) || f h)
 all-those f g n =
-    same_test (all f (those n g)) (every n (λ h. not (g h) || f h))
+    both_ways (all f (those n g)) (every n (λ h. not (g h) || f h))
     (λ a. every_of (λ h. not (g h) || f h) n
     (λ h l. not-or (g h) (f h) (λ y. all_in f (those n g) a (those-in g n h l y))))
     (λ a. all_of f (those n g)

@@ -7,6 +7,9 @@ use lib.Dec.{eqb}
 use lib.ListN.{get_or, set, length, get_or-eq_default}
 use lib.Seq.{get_or-set_same, get_or-set_other, set_out}
 use borrow.Author.Tests.{eqb-true, eqb-false, eq-eqb, ne_eqb}
+use Rattle.std.proofs.lemmas.Bool.{false_from_ne_true, false≢true}
+use Rattle.std.specs.Cmp.Derive.{both_true}
+use Rattle.std.specs.Cmp.{second_so, both_ways}
 use Rattle.rules.specs.Choice.{when◌then◌else◌}
 use Rattle.rules.specs.Tables.{counter_at}
 use Rattle.std.specs.Prelude.{Option, Some, None}
@@ -15,23 +18,24 @@ use Rattle.rules.specs.Replies.{is_mapped_to, counted, count_at, tell_one, tell}
 use Rattle.rules.specs.Events.{times, others, occurs}
 use Rattle.rules.specs.Counting.{EventsAddOne}
 use Rattle.rules.specs.declared.records.Counter.{Counter}
-use Rattle.rules.proofs.Logic.{if-true, if-false, by_cases, below_or, false-if, false-true, and_r, and-of}
-use Rattle.rules.proofs.Logic.{same_test}
+use Rattle.rules.proofs.Logic.{if-true, if-false, by_cases, below_or}
 use Rattle.rules.proofs.Own.{counted-at}
 
 -- ----- one event on one counter
 
 mapped-to : (e : ℕ) (o : Option ℕ) → is_mapped_to e o ≡ true → o ≡ Some e
-mapped-to e None y = absurd (false-true y)
+mapped-to e None y = absurd (false≢true y)
 mapped-to e (Some k) y = ap Some (eqb-true k e y)
 
 pub events-add-one : EventsAddOne
 unfolding counted
 events-add-one e c = record {
-  adds = λ r m. if-true _ _ (and-of r (rw m (eq-eqb e e refl)));
+  adds = λ r m. if-true _ _ (both_true r (rw m (eq-eqb e e refl)));
   stopped = λ r. if-false _ _ (rw r refl);
-  unmapped = λ m. if-false _ _ (false-if _ (λ y. none-some e (sym m ∙ mapped-to e c.event (and_r c.running _ y))));
-  elsewhere = λ n. if-false _ _ (false-if _ (λ y. n (mapped-to e c.event (and_r c.running _ y))));
+  unmapped = λ m.
+      if-false _ _
+      (false_from_ne_true _ (λ y. none-some e (sym m ∙ mapped-to e c.event (second_so c.running _ y))));
+  elsewhere = λ n. if-false _ _ (false_from_ne_true _ (λ y. n (mapped-to e c.event (second_so c.running _ y))));
 }
 
 -- ----- one event in one hart
@@ -97,7 +101,7 @@ module _ (h e : ℕ) where
       (count_at_lem h e t j i ∙ if-false _ _ (ne_eqb j h away)))
     where
       turn : (a b : ℕ) → eqb a b ≡ eqb b a
-      turn a b = same_test (eqb a b) (eqb b a) (λ y. eq-eqb b a (sym (eqb-true a b y)))
+      turn a b = both_ways (eqb a b) (eqb b a) (λ y. eq-eqb b a (sym (eqb-true a b y)))
           (λ y. eq-eqb a b (sym (eqb-true b a y)))
 
   -- the caller's counters: one sent event for each other hart

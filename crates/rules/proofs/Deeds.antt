@@ -26,9 +26,8 @@ use Rattle.rules.specs.Choice.{when◌then◌else◌}
 use Rattle.rules.specs.declared.platform.Platform.{Platform}
 use Rattle.rules.specs.declared.records.Hart.{Hart}
 use Rattle.rules.specs.declared.records.Counter.{Counter}
-use Rattle.std.specs.Prelude.{Option}
+use Rattle.std.specs.Prelude.{Option, None, Some}
 use Rattle.rules.specs.declared.actions.Action.{Action}
-use Rattle.std.specs.Prelude.{None, Some}
 use Rattle.rules.proofs.ReachWays.{reached-by-hart}
 use Rattle.rules.proofs.Logic.{clash, if-both}
 use Rattle.rules.proofs.SetLaws.{those-few}

@@ -5,6 +5,8 @@ use mathlib.Core.List.{List, [], ◌∷◌, ◌++◌}
 use Prim.Native.Nat.{ℕ}
 use lib.Dec.{leb, eqb}
 use borrow.Author.Tests.{eqb-true, eq-eqb, le-ltb, leb-true}
+use Rattle.std.proofs.lemmas.Bool.{false_from_ne_true}
+use Rattle.std.specs.Cmp.{first_so, second_so}
 use Rattle.rules.specs.Choice.{when◌then◌else◌}
 use Rattle.rules.specs.Names.{STARTED, STOPPED, HSM, action_memory}
 use Rattle.rules.specs.Platform.{enabled, platform_accepted}
@@ -20,7 +22,6 @@ use Rattle.rules.specs.declared.platform.Platform.{Platform}
 use Rattle.rules.specs.declared.answers.Registers.{Registers}
 use Rattle.rules.specs.Answers.{done}
 use Rattle.std.specs.Prelude.{Ok}
-use Rattle.rules.proofs.Logic.{false-if, and_l, and_r}
 use Rattle.rules.proofs.WellFormed.{platform-agrees, tables_agree}
 use Rattle.rules.proofs.Readings.{run-read, read-run, run-one, run-last, run-next}
 use Rattle.rules.proofs.Kept.{all-kept, fresh-fine}
@@ -72,9 +73,9 @@ status-checked : (p : Platform) (t : Tables) (room k : ℕ) (q : Registers) → 
     → checked_reply p t (call room k q) ≡ plain (view t k) (status_reply p (view t k) q.a0)
 unfolding ready request_reply plain_reply
 status-checked p t room k q w asked r =
-    let m = and_r (leb action_memory room) _ r in
-    let s : state_of t.harts k ≡ STARTED = eqb-true _ _ (and_l (eqb (state_of t.harts k) STARTED) _ m) in
-    checked-enabled p t (call room k q) (le-ltb room action_memory (leb-true action_memory room (and_l _ _ r)))
+    let m = second_so (leb action_memory room) _ r in
+    let s : state_of t.harts k ≡ STARTED = eqb-true _ _ (first_so (eqb (state_of t.harts k) STARTED) _ m) in
+    checked-enabled p t (call room k q) (le-ltb room action_memory (leb-true action_memory room (first_so _ _ r)))
     (running-enabled p t w k s)
     ∙ call-started p t room k q s
     ∙ ap (request_reply p (view t k) k) asked
@@ -103,6 +104,6 @@ lives-hold p ok ops h on = record {
       status-call p (tables_now p ops) h room k q ok (fine p ok ops) on a7 a6 a0 w
       ∙ ap (λ (s : ℕ). Ok (done s false 0)) (statuses p ok ops h r);
   accepts = λ e op ev w fit. complete p ok ops h e op on ev w fit;
-  refuses = λ e op ev no-fit. false-if (accepted (reply p (tables_now p ops) op))
+  refuses = λ e op ev no-fit. false_from_ne_true (accepted (reply p (tables_now p ops) op))
       (λ y. no-fit (sound p ok ops h e op ev y));
 }

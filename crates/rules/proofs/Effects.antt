@@ -24,8 +24,7 @@ use Rattle.rules.specs.Lives.{Event, suspend, done, wake}
 use Rattle.rules.specs.Rows.{InRow, ◌does◌, life_event, request_event, event_of}
 use Rattle.rules.specs.declared.platform.Platform.{Platform}
 use Rattle.rules.specs.declared.records.Hart.{Hart}
-use Rattle.std.specs.Prelude.{Option}
-use Rattle.std.specs.Prelude.{Some, None}
+use Rattle.std.specs.Prelude.{Option, Some, None}
 use Rattle.rules.specs.declared.actions.Action.{Action}
 use Rattle.rules.proofs.Logic.{if-both}
 use Rattle.rules.proofs.Readings.{Place, off, starting, up, falling, asleep, waking as rising, stopping, name}

@@ -3,6 +3,8 @@ use mathlib.Core.Path.{◌≡◌, refl, ap, ◌∙◌}
 use mathlib.Core.Bool.{true, false, not}
 use Prim.Native.Nat.{ℕ}
 use borrow.Author.Tests.{eq-eqb, ne_eqb}
+use Rattle.std.specs.Cmp.Derive.{both_true}
+use Rattle.std.proofs.lemmas.Bool.{not_from_true}
 use Rattle.rules.specs.Names.{STARTED}
 use Rattle.rules.specs.Platform.{enabled, platform_accepted}
 use Rattle.rules.specs.Tables.{Tables, state_of, tables_well_formed, well_formed}
@@ -14,7 +16,7 @@ use Rattle.rules.specs.Machine.{request_reply, Operation, call, completion, waki
 use Rattle.rules.specs.Machine.{enabled_reply, checked_reply, reply}
 use Rattle.rules.specs.declared.platform.Platform.{Platform}
 use Rattle.rules.specs.declared.answers.Registers.{Registers}
-use Rattle.rules.proofs.Logic.{if-true, if-false, and-of, not-of}
+use Rattle.rules.proofs.Logic.{if-true, if-false}
 use Rattle.rules.specs.declared.answers.Refusal.TheVariants.{NotWellFormed, NotEnabled, NotStarted}
 use Rattle.rules.specs.declared.answers.Refusal.TheVariants.{ShortMemory}
 
@@ -30,18 +32,9 @@ module _ (p : Platform) (t : Tables) where
     unfolding reply
     reply-well e = if-false _ _ (ap not e)
 
-    pub reply-no-platform : platform_accepted p ≡ false → reply p t op ≡ refused NotWellFormed
+    pub reply-checked : platform_accepted p ≡ true → tables_well_formed p t ≡ true → reply p t op ≡ checked_reply p t op
     unfolding reply well_formed
-    reply-no-platform e = if-true _ _ (rw e refl)
-
-    module _ (ok : platform_accepted p ≡ true) where
-      pub reply-no-tables : tables_well_formed p t ≡ false → reply p t op ≡ refused NotWellFormed
-      unfolding reply well_formed
-      reply-no-tables e = if-true _ _ (rw (ok, e) refl)
-
-      pub reply-checked : tables_well_formed p t ≡ true → reply p t op ≡ checked_reply p t op
-      unfolding reply well_formed
-      reply-checked e = if-false _ _ (not-of (and-of ok e))
+    reply-checked ok e = if-false _ _ (not_from_true _ (both_true ok e))
 
     -- ----- H4, H2
 

@@ -21,7 +21,7 @@ use Rattle.rules.specs.declared.records.Hart.{Hart}
 use Rattle.rules.specs.declared.records.Counter.{Counter}
 use Rattle.rules.proofs.Logic.{if-both, clash}
 use Rattle.rules.proofs.Lists.{set-either, get_or-repeat}
-use Rattle.rules.proofs.WellFormed.{enabled-under, blank-fine}
+use Rattle.rules.proofs.WellFormed.{enabled_under, blank-fine}
 use Rattle.rules.proofs.Readings.{name-le, named-place}
 use Rattle.rules.proofs.Effects.{Effect, still, moved, Lawful, l-did, reply-lawful}
 use Rattle.rules.proofs.Own.{counted-blank, counted-at, event-fine, ReplyFine, r-did, enabled-fine}
@@ -64,7 +64,7 @@ module _ (p : Platform) where
   unfolding hart_at
   effect-fine hs long f still = (long, f)
   effect-fine hs long f (moved {k} x on lead) =
-      let from = named-place (hart_at hs k).state (f k (enabled-under p k on)).state in
+      let from = named-place (hart_at hs k).state (f k (enabled_under p k on)).state in
       let to = lead from.0 (record { state = from.1 }) in
       let ok : HartFine p k x = record
       { state = rw to.2.state (name-le to.0); unused = λ off. absurd (clash on off) } in (
@@ -95,7 +95,7 @@ module _ (p : Platform) where
       (λ _. if-both P _ (λ _ _. w)
       (λ on e.
       let o = not-false _ on in
-      let f = w.own (hart_of op) (enabled-under p (hart_of op) o) in
+      let f = w.own (hart_of op) (enabled_under p (hart_of op) o) in
       commit-kept t (hart_of op) o w (enabled_reply p (view t (hart_of op)) op) e
       (enabled-fine p (view t (hart_of op)) op (f.eight, f.fine)))))
       (reply-lawful p t op)

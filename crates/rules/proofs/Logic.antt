@@ -1,10 +1,11 @@
 -- Plain logic: the laws of `when◌then◌else◌`, tests joined by and, or, not, and contradictions.
 use mathlib.Core.Path.{◌≡◌, refl, sym, ◌∙◌}
-use mathlib.Core.Bool.{Bool, true, false, not, ◌&&◌, ◌||◌}
+use mathlib.Core.Bool.{Bool, true, false, not, ◌||◌}
 use Prim.Native.Nat.{ℕ, ◌<◌, ◌≤◌}
-use native.Mathlib.Omega.{arith}
 use lib.Dec.{ltb}
 use borrow.Author.Tests.{ltb-true, ltb-false}
+use Rattle.std.proofs.lemmas.Bool.{false≢true}
+use Rattle.std.proofs.lemmas.Bool.Decides.{nat_tests}
 use Rattle.rules.specs.Choice.{when◌then◌else◌}
 
 -- ----- choices
@@ -30,6 +31,9 @@ module _ {A : Type 0} where
   if-same true x = refl
   if-same false x = refl
 
+-- for goals on a choice whose test compares numbers
+pub ruleset choice = (if-true, if-false, nat_tests)
+
 -- a function of a choice is the choice of the function's values
 pub if-ap : {A B : Type 0} (g : A → B) (b : Bool) (x y : A) → g (when b then x else y) ≡ when b then g x else g y
 unfolding when◌then◌else◌
@@ -38,12 +42,9 @@ if-ap g false x y = refl
 
 -- ----- contradictions
 
-pub false-true : false ≡ true → ⊥
-false-true e = let z : ◌≡◌ {A = ℕ} 0 1 = cc in omega arith
-
 -- a test does not come out both ways
 pub clash : {b : Bool} → b ≡ true → b ≡ false → ⊥
-clash t f = false-true (sym f ∙ t)
+clash t f = false≢true (sym f ∙ t)
 
 pub by_cases : {P : Type 0} (b : Bool) → (b ≡ true → P) → (b ≡ false → P) → P
 by_cases true f g = f refl
@@ -53,49 +54,17 @@ by_cases false f g = g refl
 pub below_or : {P : Type 0} (a b : ℕ) → (a < b → P) → (b ≤ a → P) → P
 below_or a b f g = by_cases (ltb a b) (λ e. f (ltb-true a b e)) (λ e. g (ltb-false a b e))
 
-pub false-if : (b : Bool) → (b ≡ true → ⊥) → b ≡ false
-false-if true f = absurd (f refl)
-false-if false f = refl
-
--- two tests that hold of each other are the same
-pub same_test : (a b : Bool) → (a ≡ true → b ≡ true) → (b ≡ true → a ≡ true) → a ≡ b
-same_test true b f g = sym (f refl)
-same_test false true f g = g refl
-same_test false false f g = refl
-
--- ----- and
-
-pub and_l : (a b : Bool) → (a && b) ≡ true → a ≡ true
-and_l true b e = refl
-and_l false b e = cc
-
-pub and_r : (a b : Bool) → (a && b) ≡ true → b ≡ true
-and_r true b e = e
-and_r false b e = cc
-
-pub and-of : {a b : Bool} → a ≡ true → b ≡ true → (a && b) ≡ true
-and-of {a} {b} e f = rw (e, f) refl
-
 -- ----- or
-
-pub or_l : (a b : Bool) → a ≡ true → (a || b) ≡ true
-or_l a b e = rw e refl
 
 pub or-of : (a b : Bool) → (a ≡ false → b ≡ true) → (a || b) ≡ true
 or-of true b f = refl
 or-of false b f = f refl
 
 pub or_right : (a b : Bool) → (a || b) ≡ true → a ≡ false → b ≡ true
-or_right true b e f = absurd (false-true (sym f))
+or_right true b e f = absurd (false≢true (sym f))
 or_right false b e f = e
 
 -- ----- not
-
-pub not-of : {b : Bool} → b ≡ true → not b ≡ false
-not-of e = rw e
-
-pub not-off : {b : Bool} → b ≡ false → not b ≡ true
-not-off e = rw e
 
 -- one test implies another
 pub not-or : (a b : Bool) → (a ≡ true → b ≡ true) → (not a || b) ≡ true
@@ -104,19 +73,7 @@ not-or false b f = refl
 
 pub not-or-inv : (a b : Bool) → (not a || b) ≡ true → a ≡ true → b ≡ true
 not-or-inv true b e f = e
-not-or-inv false b e f = absurd (false-true f)
-
--- ----- `a && b` in code: b where a holds, else a
-
-pub and-yes : {a b v : Bool} → a ≡ true → v ≡ b → v ≡ (a && b)
-and-yes {a} {b} {v} e q = rw e q
-
-pub and-no : (a b v : Bool) → a ≡ false → v ≡ a → v ≡ (a && b)
-and-no a b v e q = q ∙ e ∙ (rw e refl)
-
-pub and-assoc : (a b c : Bool) → ((a && b) && c) ≡ (a && (b && c))
-and-assoc true b c = refl
-and-assoc false b c = refl
+not-or-inv false b e f = absurd (false≢true f)
 
 -- ----- `a || b` in code: a where a holds, else b
 

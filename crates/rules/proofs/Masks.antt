@@ -6,6 +6,7 @@ use mathlib.Core.Logic.{◌↔◌}
 use Prim.Native.Nat.{ℕ, ◌+◌, ◌<◌, ◌≤◌}
 use lib.Dec.{eqb}
 use borrow.Author.Tests.{not-true, eq-eqb, ne_eqb, le-ltb}
+use Rattle.std.proofs.lemmas.Bool.{or_left, false_from_ne_true}
 use Rattle.rules.specs.Tables.{state_of}
 use Rattle.rules.specs.Names.{STOP_PENDING, STOPPED, harts, counters}
 use Rattle.rules.specs.Sets.{bit, ones, those, numbers, names, Ascending, all}
@@ -16,11 +17,11 @@ use Rattle.rules.specs.Deliveries.{MasksExact}
 use Rattle.rules.specs.Counting.{CounterSetsExact}
 use Rattle.rules.specs.declared.platform.Platform.{Platform}
 use Rattle.rules.specs.declared.records.Hart.{Hart}
-use Rattle.rules.proofs.Logic.{or_l, or-of, if-true, if-false, if-both, clash, false-if}
+use Rattle.rules.proofs.Logic.{or-of, if-true, if-false, if-both, clash}
 use Rattle.rules.proofs.SetLaws.{those-in, those-only}
 use Rattle.rules.proofs.Ascending.{those-ascending, numbers-ascending, keep-ascending, keep-in, keep-only}
 use Rattle.rules.proofs.Ascending.{all_in, all_of, numbers-in, numbers-only, numbers-those}
-use Rattle.rules.proofs.WellFormed.{enabled-under, enabled-over}
+use Rattle.rules.proofs.WellFormed.{enabled_under, enabled-over}
 
 -- the test of a hart's state says what its sentence says
 reached-states : (hs : List Hart) (h : ℕ)
@@ -28,7 +29,7 @@ reached-states : (hs : List Hart) (h : ℕ)
 unfolding is_reached
 reached-states hs h = (
   λ e. (
-    λ s. clash (or_l _ (eqb (state_of hs h) STOP_PENDING) (eq-eqb _ _ s)) (not-true _ e),
+    λ s. clash (or_left _ (eqb (state_of hs h) STOP_PENDING) (eq-eqb _ _ s)) (not-true _ e),
     λ s. clash (or-of (eqb (state_of hs h) STOPPED) _ (λ _. eq-eqb _ _ s)) (not-true _ e),
   ),
   λ n. rw (ne_eqb _ _ n.0, ne_eqb _ _ n.1) refl,
@@ -56,14 +57,14 @@ module _ (p : Platform) (m base : ℕ) where
   selected-those n f =
       selected-named n
       ∙ numbers-those (width p) base m harts
-      (λ h t. enabled-under p h (fits_in h f (subst (Memᴰ h) (sym (selected-named n)) t)))
+      (λ h t. enabled_under p h (fits_in h f (subst (Memᴰ h) (sym (selected-named n)) t)))
 
   -- ----- the promise
 
   everyone : base ≡ ones (width p) → (h : ℕ) → Memᴰ h (selected p m base) ↔ (enabled p h ≡ true)
   everyone e h = (
     λ t. (those-only (enabled p) harts h (subst (Memᴰ h) (selected-everyone e) t)).1,
-    λ on. subst (Memᴰ h) (sym (selected-everyone e)) (those-in (enabled p) harts h (enabled-under p h on) on),
+    λ on. subst (Memᴰ h) (sym (selected-everyone e)) (those-in (enabled p) harts h (enabled_under p h on) on),
   )
 
   named : (base ≡ ones (width p) → ⊥) → (h : ℕ) → Memᴰ h (selected p m base)
@@ -82,7 +83,7 @@ module _ (p : Platform) (m base : ℕ) where
   never_wraps : (base ≡ ones (width p) → ⊥) → (i : ℕ) → i < width p → bit m i ≡ true → harts ≤ base + i
       → selection_fits p m base ≡ false
   never_wraps n i l b over =
-      false-if (selection_fits p m base)
+      false_from_ne_true (selection_fits p m base)
       (λ f. clash
       (fits_in (base + i) f (subst (Memᴰ (base + i)) (sym (selected-named n)) (numbers-in (width p) base m i l b)))
       (enabled-over p (base + i) over))
@@ -128,7 +129,7 @@ counter-sets-exact p base m = record {
         (numbers-in (width p) base m r.0 r.1 r.2),
   );
   never_wraps = λ i l b over.
-      false-if (all is_counter (numbers (width p) base m))
+      false_from_ne_true (all is_counter (numbers (width p) base m))
       (λ f.
       clash (all_in is_counter (numbers (width p) base m) f (numbers-in (width p) base m i l b))
       (le-ltb (base + i) counters over));

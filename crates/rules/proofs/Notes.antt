@@ -26,19 +26,18 @@ use Rattle.rules.specs.Machine.{life_reply, plain_reply, reply, request_reply, w
 use Rattle.rules.specs.Tables.{Tables, blank, counter_at, fresh, hart_at, idle, in_state, own_at}
 use Rattle.rules.specs.Requests.{Request, hart_start, hart_stop, hart_suspend, life, other, request}
 use Rattle.rules.specs.Lives.{suspend}
-use Rattle.std.specs.Prelude.{Option}
+use Rattle.std.specs.Prelude.{Option, None, Some}
 use Rattle.rules.specs.declared.platform.Platform.{Platform}
 use Rattle.rules.specs.declared.answers.Registers.{Registers}
 use Rattle.rules.specs.declared.actions.Action.{Action}
 use Rattle.rules.specs.declared.records.Counter.{Counter}
-use Rattle.std.specs.Prelude.{None, Some}
 use Rattle.rules.specs.declared.records.Hart.{Hart}
 use Rattle.rules.proofs.HartWays.{suspend-no-type, suspend-given, suspend-nowhere, suspend-retentive}
 use Rattle.rules.proofs.Logic.{below_or, by_cases, if-both}
 use Rattle.rules.proofs.Lists.{get_or-repeat, set-either}
 use Rattle.rules.proofs.Passed.{Passed, accepted-did, did-passed, if-did}
 use Rattle.rules.proofs.RequestWays.{hart-3, request-hsm}
-use Rattle.rules.proofs.WellFormed.{enabled-under, platform-agrees}
+use Rattle.rules.proofs.WellFormed.{enabled_under, platform-agrees}
 
 -- ----- fresh tables
 
@@ -46,7 +45,7 @@ pub fresh-exact : FreshExact
 unfolding fresh hart_at own_at counter_at
 fresh-exact p ok =
     let some-hart : p.boot < length (replicate harts (idle STOPPED)) =
-    rw (length-replicate harts (idle STOPPED)) (enabled-under p p.boot ((platform-agrees p).0 ok).boot) in
+    rw (length-replicate harts (idle STOPPED)) (enabled_under p p.boot ((platform-agrees p).0 ok).boot) in
     record {
       boot = get_or-set_same (replicate harts (idle STOPPED)) p.boot (idle STARTED) (idle STOPPED) some-hart;
       others = λ h away.
@@ -204,7 +203,7 @@ module _ (p : Platform) (t : Tables) (room h : ℕ) (q : Registers) (a7 : q.a7 �
       ap (λ (r : Reply). get_or (commit t h r).harts h (idle STOPPED)) deed.1
       ∙ ap (λ (hs : List Hart). get_or hs h (idle STOPPED)) records
       ∙ get_or-set_same t.harts h x (idle STOPPED)
-      (rw passed.fine.records (enabled-under p h passed.on))
+      (rw passed.fine.records (enabled_under p h passed.on))
 
   noted : NoteWritten q (hart_at (after p t (call room h q)).harts h)
   unfolding suspend_of when◌then◌else◌ view

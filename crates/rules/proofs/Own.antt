@@ -5,6 +5,9 @@ use mathlib.Core.Bool.{Bool, true, false}
 use Prim.Native.Nat.{ℕ, ◌-◌, ◌≤◌}
 use native.Mathlib.Omega.{arith}
 use lib.Dec.{leb}
+use Rattle.std.proofs.lemmas.Bool.{false≢true}
+use Rattle.std.specs.Cmp.Derive.{both_true}
+use Rattle.std.specs.Cmp.{first_so, second_so}
 use Rattle.rules.specs.declared.answers.Error.{Error}
 use Rattle.rules.specs.declared.answers.Refusal.{Refusal}
 use lib.ListN.{get_or, set, length, length-set, length-map, get_or-map}
@@ -32,12 +35,11 @@ use Rattle.rules.specs.Machine.{enabled_reply}
 use Rattle.rules.specs.declared.platform.Platform.{Platform}
 use Rattle.rules.specs.declared.records.Hart.{Hart}
 use Rattle.rules.specs.declared.records.Counter.{Counter}
-use Rattle.std.specs.Prelude.{Option, is_some}
+use Rattle.std.specs.Prelude.{Option, is_some, Some, None}
 use Rattle.std.proofs.lemmas.Option.{same_Some, none-some}
-use Rattle.std.specs.Prelude.{Some, None}
 use Rattle.rules.specs.declared.actions.Action.{Action}
 use Rattle.rules.proofs.Lists.{first-in, fourth-in, second-in, third-in, set-either}
-use Rattle.rules.proofs.Logic.{if-both, and_l, and_r, and-of, false-true}
+use Rattle.rules.proofs.Logic.{if-both}
 use Rattle.rules.specs.declared.answers.Error.TheVariants.{InvalidParam, NotSupported}
 use Rattle.rules.specs.declared.answers.Refusal.TheVariants.{NotEnabled, NotWellFormed, ShortMemory}
 use Rattle.rules.specs.declared.answers.Refusal.TheVariants.{StateForbids}
@@ -63,7 +65,7 @@ each-fine g ok (i ∷ is) cs f = each-fine g ok is (set cs i (g (counter_at cs i
 -- "Events 0xF0000 to 0xF0015 only": so a mapped code is 0 to 21
 event-code : (e : ℕ) → is_event e ≡ true → e - first_event ≤ last_code
 unfolding is_event
-event-code e h = omega (arith, leb-true e last_event (and_r (leb first_event e) (leb e last_event) h))
+event-code e h = omega (arith, leb-true e last_event (second_so (leb first_event e) (leb e last_event) h))
 
 configured-fine : (flags e : ℕ) (c : Counter) → e ≤ last_code → CounterFine (configured flags e c)
 unfolding configured
@@ -77,7 +79,7 @@ unfolding ended
 ended-fine flags c f = record {
   codes = λ k. if-both (λ (o : Option ℕ). o ≡ Some k → k ≤ last_code) (bit flags 0)
       (λ _ q. absurd (none-some k q)) (λ _. f.codes k);
-  runs = λ r. absurd (false-true r);
+  runs = λ r. absurd (false≢true r);
 }
 
 -- a start keeps what is mapped
@@ -93,17 +95,17 @@ all-mapped : (flags x : ℕ) (cs : List Counter) (i : ℕ) (is : List ℕ) → a
 unfolding all
 all-mapped flags x cs i [] a = refl
 all-mapped flags x cs i (j ∷ is) a =
-    and-of (begun-mapped flags x cs i j (and_l (is_mapped cs j) _ a))
-    (all-mapped flags x cs i is (and_r (is_mapped cs j) _ a))
+    both_true (begun-mapped flags x cs i j (first_so (is_mapped cs j) _ a))
+    (all-mapped flags x cs i is (second_so (is_mapped cs j) _ a))
 
 begun-fine : (flags x : ℕ) (is : List ℕ) (cs : List Counter) → all (is_mapped cs) is ≡ true → Fine cs
     → Fine (each (begun flags x) is cs)
 unfolding each all begun is_mapped
 begun-fine flags x [] cs a f = f
 begun-fine flags x (i ∷ is) cs a f =
-    let m : is_some (counter_at cs i).event ≡ true = and_l (is_mapped cs i) _ a in
+    let m : is_some (counter_at cs i).event ≡ true = first_so (is_mapped cs i) _ a in
     begun-fine flags x is (set cs i (begun flags x (counter_at cs i)))
-    (all-mapped flags x cs i is (and_r (is_mapped cs i) _ a))
+    (all-mapped flags x cs i is (second_so (is_mapped cs i) _ a))
     (set-fine cs i (begun flags x (counter_at cs i))
     (record { codes = (f.1 i).codes; runs = λ _. m }) f)
 

@@ -4,6 +4,8 @@ use mathlib.Core.Bool.{Bool, true, false}
 use Prim.Native.Nat.{ℕ}
 use native.Mathlib.Omega.{arith}
 use borrow.Author.Tests.{not-false}
+use Rattle.std.proofs.lemmas.Bool.{false≢true}
+use Rattle.std.specs.Cmp.{second_so}
 use Rattle.rules.specs.declared.answers.Refusal.{Refusal}
 use Rattle.rules.specs.Choice.{when◌then◌else◌}
 use Rattle.rules.specs.Platform.{enabled, platform_accepted}
@@ -11,7 +13,6 @@ use Rattle.rules.specs.Tables.{Tables, well_formed, tables_well_formed, TablesWe
 use Rattle.rules.specs.Replies.{view, Done, Reply, refused, failed, did, accepted}
 use Rattle.rules.specs.Machine.{Operation, hart_of, enabled_reply, checked_reply, reply}
 use Rattle.rules.specs.declared.platform.Platform.{Platform}
-use Rattle.rules.proofs.Logic.{false-true, and_r}
 use Rattle.rules.proofs.WellFormed.{tables_agree}
 
 -- a choice that is done was not refused
@@ -33,13 +34,13 @@ did-passed p t op d e =
     let b = if-did _ _ _ d a.1 in
     let c = if-did _ _ (enabled_reply p (view t (hart_of op)) op) d b.1 in
     record {
-      fine = (tables_agree p t).0 (and_r (platform_accepted p) (tables_well_formed p t) (not-false _ a.0));
+      fine = (tables_agree p t).0 (second_so (platform_accepted p) (tables_well_formed p t) (not-false _ a.0));
       on = not-false _ c.0;
       replied = c.1;
     }
 
 -- an accepted reply is what was done
 pub accepted-did : (r : Reply) → accepted r ≡ true → (d : Done) × (r ≡ did d)
-accepted-did (refused k) e = absurd (false-true e)
-accepted-did (failed k) e = absurd (false-true e)
+accepted-did (refused k) e = absurd (false≢true e)
+accepted-did (failed k) e = absurd (false≢true e)
 accepted-did (did d) e = (d, refl)

@@ -5,6 +5,7 @@ use mathlib.Core.List.{List, Memᴰ}
 use Prim.Native.Nat.{ℕ, ◌+◌}
 use lib.Dec.{leb, eqb}
 use borrow.Author.Tests.{eqb-false, eqb-true}
+use Rattle.std.specs.Cmp.{both_ways}
 use Rattle.rules.specs.Sets.{all, bit, ones, every, those, names, keep}
 use Rattle.rules.specs.Platform.{hypervisor, width, enabled}
 use Rattle.rules.specs.Choice.{when◌then◌else◌}
@@ -14,7 +15,7 @@ use Rattle.rules.specs.Fences.{sent_code, id_valid, hypervisors_fit, range_valid
 use Rattle.rules.specs.Replies.{View, fails}
 use Rattle.rules.specs.declared.platform.Platform.{Platform}
 use Rattle.rules.specs.declared.records.Hart.{Hart}
-use Rattle.rules.proofs.Logic.{if-true, if-false, by_cases, same_test, not-or, not-or-inv}
+use Rattle.rules.proofs.Logic.{if-true, if-false, by_cases, not-or, not-or-inv}
 use Rattle.rules.proofs.SetLaws.{every-at, every_of, those-only, those-ext}
 use Rattle.rules.proofs.Ascending.{all_of, keep-those, all-those, numbers-in, numbers-only}
 use Rattle.rules.proofs.Masks.{selected-everyone, selected-named, selected-those, fits_in}
@@ -33,7 +34,7 @@ module _ (p : Platform) (m base : ℕ) where
   pub fits-every : (base ≡ ones (width p) → ⊥) → selection_fits p m base ≡ every (width p) (bit_fits p m base)
   unfolding selection_fits bit_fits
   fits-every n =
-      same_test (selection_fits p m base) (every (width p) (bit_fits p m base))
+      both_ways (selection_fits p m base) (every (width p) (bit_fits p m base))
       (λ f. every_of (bit_fits p m base) (width p)
       (λ i l. not-or (bit m i) (enabled p (base + i))
       (λ b. fits_in p m base (base + i) f

@@ -173,9 +173,6 @@ run-read {ms} u = let v = run-front u in let w = off-row v.1 in
 pub one-reading : {es : List Event} (r s : Reading es) → r.front ≡ s.front
 one-reading r s = (run-one (read-run r).1 (read-run s).1 (r.said ∙ sym s.said)).0
 
-pub one_place : {es : List Event} (r s : Reading es) → placed r ≡ placed s
-one_place r s = ap (last STOPPED) (one-reading r s)
-
 -- Nor can a whole row: its events settle its lives and their rounds.
 rounds-one : (rs rs' : List Round) (k k' : List Mark)
     → events (rounds rs (stop named STOP_PENDING ∷ done named STOPPED ∷ k)) ≡ events

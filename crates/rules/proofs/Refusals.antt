@@ -4,6 +4,8 @@ use mathlib.Core.Bool.{true, false}
 use mathlib.Core.Path.{◌≡◌, refl, ap, sym, ◌∙◌}
 use Prim.Native.Nat.{ℕ}
 use borrow.Author.Tests.{not-false}
+use Rattle.std.proofs.lemmas.Bool.{false≢true, not_from_true}
+use Rattle.std.specs.Cmp.{second_so}
 use Rattle.rules.specs.Refusals.{errors_of, refusals_of, RefusalsAlterNothing, Listed, listed-refusal}
 use Rattle.rules.specs.Refusals.{listed-error, no-refusal, RefusalsListed}
 use Rattle.rules.specs.Machine.{call, completion, event, is_short, waking, Operation, hart_of, checked_reply}
@@ -15,8 +17,8 @@ use Rattle.rules.specs.Replies.{memory_after, commit}
 use Rattle.rules.specs.Promises.{Alike, CountersApart}
 use Rattle.rules.specs.declared.platform.Platform.{Platform}
 use Rattle.rules.proofs.Lists.{first-in, second-in, third-in}
-use Rattle.rules.proofs.Logic.{if-false, if-both, and_r, not-of, false-true}
-use Rattle.rules.proofs.WellFormed.{enabled-under, tables_agree}
+use Rattle.rules.proofs.Logic.{if-false, if-both}
+use Rattle.rules.proofs.WellFormed.{enabled_under, tables_agree}
 use Rattle.rules.proofs.Own.{ReplyFine, r-refused, r-failed, r-did, enabled-fine}
 use Rattle.rules.specs.declared.answers.Refusal.TheVariants.{NotEnabled, NotWellFormed, ShortMemory}
 
@@ -26,7 +28,7 @@ kept : (t : Tables) (h : ℕ) (r : Reply) → accepted r ≡ false → (commit t
 unfolding commit actions_of
 kept t h (refused k) e = (refl, refl)
 kept t h (failed k) e = (refl, refl)
-kept t h (did d) e = absurd (false-true (sym e))
+kept t h (did d) e = absurd (false≢true (sym e))
 
 nothing-laid : (m : List ℕ) → laid (words_of []) m ≡ m
 unfolding laid words_of
@@ -56,7 +58,7 @@ h4-listed : (op : Operation) → is_short op ≡ true → Memᴰ ShortMemory (re
 h4-listed (call room h q) e = second-in
 h4-listed (completion room h) e = second-in
 h4-listed (waking room h) e = second-in
-h4-listed (event h c) e = absurd (false-true e)
+h4-listed (event h c) e = absurd (false≢true e)
 
 h2-listed : (op : Operation) → Memᴰ NotEnabled (refusals_of op)
 h2-listed (call room h q) = third-in
@@ -71,8 +73,8 @@ refusals-listed p t op =
     (λ w. if-both (Listed op) _ (λ short. listed-refusal (h4-listed op short))
     (λ _. if-both (Listed op) _ (λ _. listed-refusal (h2-listed op))
     (λ on.
-    let fine = (tables_agree p t).0 (and_r (platform_accepted p) (tables_well_formed p t) (not-false _ w)) in
-    let own = fine.own (hart_of op) (enabled-under p (hart_of op) (not-false _ on)) in
+    let fine = (tables_agree p t).0 (second_so (platform_accepted p) (tables_well_formed p t) (not-false _ w)) in
+    let own = fine.own (hart_of op) (enabled_under p (hart_of op) (not-false _ on)) in
     fine-listed {op = op} (enabled-fine p (view t (hart_of op)) op (own.eight, own.fine)))))
 
 -- ----- isolation
@@ -80,7 +82,7 @@ refusals-listed p t op =
 same-reply : (p : Platform) (op : Operation) (t t' : Tables) → Alike p (hart_of op) t t' → reply p t op ≡ reply p t' op
 unfolding reply checked_reply view
 same-reply p op t t' a =
-    if-false _ _ (not-of a.well) ∙ rw (a.own, a.harts) refl ∙ sym (if-false _ _ (not-of a.well'))
+    if-false _ _ (not_from_true _ a.well) ∙ rw (a.own, a.harts) refl ∙ sym (if-false _ _ (not_from_true _ a.well'))
 
 same-harts : (h : ℕ) (t t' : Tables) → t.harts ≡ t'.harts → (r : Reply) → (commit t h r).harts ≡ (commit t' h r).harts
 unfolding commit

@@ -1,20 +1,17 @@
 -- Which request a call's registers make, by its extension and its function.
-use mathlib.Core.Path.{◌≡◌, refl, ◌∙◌}
-use mathlib.Core.Bool.{true, false, ◌||◌}
-use Prim.Native.Nat.{◌≤◌, ◌^◌, ◌%◌, ◌<◌}
+use mathlib.Core.Path.{◌≡◌, refl}
+use Prim.Native.Nat.{◌^◌, ◌%◌, ◌<◌}
 use native.Mathlib.Omega.{arith}
-use lib.Dec.{eqb}
-use borrow.Author.Tests.{le-leb, ne_eqb, lt-leb}
+use borrow.Author.Tests.{ne_eqb}
 use Rattle.rules.specs.Choice.{when◌then◌else◌}
 use Rattle.rules.specs.Names.{BASE, IPI, RFENCE, HSM, PMU}
 use Rattle.rules.specs.Requests.{hart_start, hart_stop, hart_suspend, life, other, base_version, base_implementation}
 use Rattle.rules.specs.Requests.{base_implementation_version, base_probe, base_vendor, base_architecture}
-use Rattle.rules.specs.Requests.{base_machine, interrupt, fence, hart_status, counter_count, counter_details}
+use Rattle.rules.specs.Requests.{base_machine, interrupt, hart_status, counter_count, counter_details}
 use Rattle.rules.specs.Requests.{counter_configure, counter_start, counter_stop, counter_read, counter_read_high}
 use Rattle.rules.specs.Requests.{unknown, base_request, interrupt_request, fence_request, hart_request}
 use Rattle.rules.specs.Requests.{counter_request, request}
 use Rattle.rules.specs.declared.answers.Registers.{Registers}
-use Rattle.rules.proofs.Logic.{if-true, if-false}
 
 module _ (r : Registers) where
   -- ----- the extension
@@ -54,27 +51,6 @@ module _ (r : Registers) where
   pub interrupt-unknown : (r.a6 ≡ 0 → ⊥) → interrupt_request r ≡ unknown
   unfolding interrupt_request when◌then◌else◌
   interrupt-unknown n = rw (ne_eqb _ _ n) refl
-
-  -- ----- remote fences: FENCE.I, those with an ASID or VMID, and those with a range alone
-
-  pub fence-0 : r.a6 ≡ 0 → fence_request r ≡ fence 0 r.a0 r.a1 0 0 0
-  unfolding fence_request when◌then◌else◌
-  fence-0 e = rw e refl
-
-  module _ (n : r.a6 ≡ 0 → ⊥) where
-    pub fence-with-id : (eqb r.a6 2 || (eqb r.a6 3 || eqb r.a6 5)) ≡ true
-        → fence_request r ≡ fence r.a6 r.a0 r.a1 r.a2 r.a3 r.a4
-    unfolding fence_request
-    fence-with-id e = if-false _ _ (ne_eqb _ _ n) ∙ if-true _ _ e
-
-    module _ (m : (eqb r.a6 2 || (eqb r.a6 3 || eqb r.a6 5)) ≡ false) where
-      pub fence-with-range : r.a6 < 7 → fence_request r ≡ fence r.a6 r.a0 r.a1 r.a2 r.a3 0
-      unfolding fence_request
-      fence-with-range l = if-false _ _ (ne_eqb _ _ n) ∙ if-false _ _ m ∙ if-true _ _ (le-leb r.a6 6 (omega arith))
-
-      pub fence-unknown : 7 ≤ r.a6 → fence_request r ≡ unknown
-      unfolding fence_request
-      fence-unknown l = if-false _ _ (ne_eqb _ _ n) ∙ if-false _ _ m ∙ if-false _ _ (lt-leb r.a6 6 (omega arith))
 
   -- ----- Base
 

@@ -1,7 +1,7 @@
 -- Laws of sets of numbers: every, those, keep and all, membership, ascending lists, and the numbers that a mask
 -- selects.
 use mathlib.Core.Path.{◌≡◌, refl, sym, ap, ap₂, ◌∙◌, subst}
-use mathlib.Core.Bool.{Bool, true, false, ◌&&◌, ◌||◌, and-false}
+use mathlib.Core.Bool.{Bool, true, false, ◌&&◌, ◌||◌}
 use mathlib.Core.List.Memᴰ
 use mathlib.Core.List.{List, [], ◌∷◌, ◌++◌, append-nil, Memᴰ}
 use mathlib.Core.Logic.{⊎_elim}
@@ -10,10 +10,12 @@ use native.Mathlib.Nat.{le_of_suc-le-suc, not-suc-le-zero, eq-or-lt_of_le}
 use native.Mathlib.Numerals.{add-one}
 use native.Mathlib.Omega.{arith}
 use lib.ListN.{length, length-append}
+use Rattle.std.specs.Cmp.Derive.{both_true}
+use Rattle.std.specs.Cmp.{first_so, second_so}
 use Rattle.rules.specs.Choice.{when◌then◌else◌}
 use Rattle.std.specs.List.{list_all, list_any}
 use Rattle.rules.specs.Sets.{every, those, all, any}
-use Rattle.rules.proofs.Logic.{if-true, if-false, if-both, by_cases, and_l, and_r, and-of}
+use Rattle.rules.proofs.Logic.{if-true, if-false, if-both, by_cases}
 
 -- ----- all and any are the library's
 
@@ -30,36 +32,19 @@ module _ {A : Type 0} (f : A → Bool) where
 
 -- ----- every: f holds at each number below n
 
-pub every-none : (f : ℕ → Bool) → every 0 f ≡ true
-unfolding every
-every-none f = refl
-
-pub every_more : (f : ℕ → Bool) (n : ℕ) → every (n + 1) f ≡ (every n f && f n)
-unfolding every
-every_more f n = rw (add-one n) refl
-
-pub every-fails : (f : ℕ → Bool) (n i : ℕ) → i < n → f i ≡ false → every n f ≡ false
-unfolding every
-every-fails f zero i l e = absurd (not-suc-le-zero l)
-every-fails f (suc n) i l e =
-    ⊎_elim
-    (λ q. subst (λ (k : ℕ). (every n f && f k) ≡ false) q (rw e (and-false (every n f))))
-    (λ m. rw (every-fails f n i m e) refl)
-    (eq-or-lt_of_le (le_of_suc-le-suc l))
-
 pub every-at : (f : ℕ → Bool) (n i : ℕ) → i < n → every n f ≡ true → f i ≡ true
 unfolding every
 every-at f zero i l e = absurd (not-suc-le-zero l)
 every-at f (suc n) i l e =
     ⊎_elim
-    (λ q. subst (λ (k : ℕ). f k ≡ true) (sym q) (and_r (every n f) (f n) e))
-    (λ m. every-at f n i m (and_l (every n f) (f n) e))
+    (λ q. subst (λ (k : ℕ). f k ≡ true) (sym q) (second_so (every n f) (f n) e))
+    (λ m. every-at f n i m (first_so (every n f) (f n) e))
     (eq-or-lt_of_le (le_of_suc-le-suc l))
 
 pub every_of : (f : ℕ → Bool) (n : ℕ) → ((i : ℕ) → i < n → f i ≡ true) → every n f ≡ true
 unfolding every
 every_of f zero h = refl
-every_of f (suc n) h = and-of (every_of f n (λ i l. h i (omega arith))) (h n (omega arith))
+every_of f (suc n) h = both_true (every_of f n (λ i l. h i (omega arith))) (h n (omega arith))
 
 pub every-ext : (f g : ℕ → Bool) (n : ℕ) → ((i : ℕ) → i < n → f i ≡ g i) → every n f ≡ every n g
 unfolding every
@@ -67,10 +52,6 @@ every-ext f g zero h = refl
 every-ext f g (suc n) h = ap₂ ◌&&◌ (every-ext f g n (λ i l. h i (omega arith))) (h n (omega arith))
 
 -- ----- those: the numbers below n at which f holds
-
-pub those-none : (f : ℕ → Bool) → those 0 f ≡ []
-unfolding those
-those-none f = refl
 
 pub those-hit : (f : ℕ → Bool) (n : ℕ) → f n ≡ true → those (n + 1) f ≡ those n f ++ (n ∷ [])
 unfolding those

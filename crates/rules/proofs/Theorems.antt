@@ -1,9 +1,11 @@
 -- A theorem for each statement of specs/Promises, Refusals, Deliveries and Counting, under its name. Assumes nothing.
 use mathlib.Core.Path.{refl}
+use Rattle.std.specs.Cmp.Derive.{both_true}
+use Rattle.std.specs.Cmp.{first_so, second_so}
 use Rattle.rules.specs.Deliveries.{ActionsExact, ActionsFit, FrontExact, EventsAccepted, FencesAccepted}
 use Rattle.rules.specs.Deliveries.{InterruptsAccepted, MasksExact, CallsReachExactly}
 use Rattle.rules.specs.Refusals.{AnswersExact, ParkedExactly, HostRefusalsInOrder, RefusalsAlterNothing}
-use Rattle.rules.specs.Refusals.{RefusalsListed, RegisterValues}
+use Rattle.rules.specs.Refusals.{RefusalsListed, NumbersListed, RegisterValues}
 use Rattle.rules.specs.Promises.{FreshExact, NotesKept, SuspendsNoted, LivesHold, ReadOnce, PlatformTestAgrees}
 use Rattle.rules.specs.Promises.{TablesTestAgrees, FreshWellFormed, WellFormedKept, CountersApart, EdgesHold}
 use Rattle.rules.specs.Counting.{CounterSetsExact, EventsAddOne, EventsCounted, TrafficCountedExactly}
@@ -13,7 +15,6 @@ use Rattle.rules.specs.Tables.{well_formed}
 use Rattle.rules.specs.Machine.{after}
 use Rattle.rules.specs.Platform.{platform_accepted}
 use Rattle.rules.specs.Replies.{register}
-use Rattle.rules.proofs.Logic.{and_l, and_r, and-of}
 use Rattle.rules.proofs.WellFormed.{platform-agrees, tables_agree}
 use Rattle.rules.proofs.Readings.{one-reading, one-row}
 use Rattle.rules.proofs.Kept.{after_kept, fresh-fine}
@@ -53,9 +54,13 @@ refusals-listed = Refusals.refusals-listed
 pub parked-exactly : ParkedExactly
 parked-exactly = ActionsGiven.parked-exactly
 
--- Hk for a refusal, the error and 0 for an error, and else 0, the value, the mark and the number of actions
+-- Hk and no pair for a refusal, the error and 0 for an error, and else 0, the value, the mark and the number of actions
 pub answers-exact : AnswersExact
 answers-exact = ActionsGiven.answers-exact
+
+-- each host refusal and each error has the number that document 01 lists
+pub numbers-listed : NumbersListed
+numbers-listed = record { refusals = refl; errors = refl }
 
 -- -3 stands in the register as 18446744073709551613, and so for success and each error
 pub register-values : RegisterValues
@@ -73,14 +78,14 @@ tables-test-agrees = tables_agree
 -- fresh tables of an accepted platform are well formed
 pub fresh-well-formed : FreshWellFormed
 unfolding well_formed
-fresh-well-formed p ok = and-of ok ((tables_agree p _).1 (fresh-fine p ((platform-agrees p).0 ok).boot))
+fresh-well-formed p ok = both_true ok ((tables_agree p _).1 (fresh-fine p ((platform-agrees p).0 ok).boot))
 
 -- every operation keeps tables well formed
 pub well-formed-kept : WellFormedKept
 unfolding well_formed
 well-formed-kept p t op w =
-    and-of (and_l (platform_accepted p) _ w)
-    ((tables_agree p (after p t op)).1 (after_kept p t op ((tables_agree p t).0 (and_r (platform_accepted p) _ w))))
+    both_true (first_so (platform_accepted p) _ w)
+    ((tables_agree p (after p t op)).1 (after_kept p t op ((tables_agree p t).0 (second_so (platform_accepted p) _ w))))
 
 -- fresh: the boot hart STARTED, every other STOPPED, notes that say nothing, blank counters
 pub fresh-exact : FreshExact

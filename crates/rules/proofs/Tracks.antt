@@ -19,7 +19,7 @@ use Rattle.rules.specs.declared.platform.Platform.{Platform}
 use Rattle.rules.specs.declared.records.Hart.{Hart}
 use Rattle.rules.proofs.Logic.{if-both}
 use Rattle.rules.proofs.Lists.{get_or-repeat}
-use Rattle.rules.proofs.WellFormed.{enabled-under}
+use Rattle.rules.proofs.WellFormed.{enabled_under}
 use Rattle.rules.proofs.Readings.{Place, off, up, name, Goes, g-start, g-started, Run, here, next}
 use Rattle.rules.proofs.Effects.{Stands, Effect, still, moved, Lawful, l-refused, l-failed, l-did}
 use Rattle.rules.proofs.Effects.{reply-lawful}
@@ -67,7 +67,7 @@ module _ (p : Platform) (h : ℕ) where
             run = run-snoc T.run to.1;
             said = events-append T.marks _ ∙ ap (λ (l : List Event). l ++ (e ∷ [])) T.said;
             stands = subst (Stands to.0)
-                (sym (ap (hart_at (set hs k x)) hk ∙ hart-put-same hs k x (rw long (enabled-under p k on)))) to.2;
+                (sym (ap (hart_at (set hs k x)) hk ∙ hart-put-same hs k x (rw long (enabled_under p k on)))) to.2;
           }
 
       miss : eqb h k ≡ false → Tracks h (set hs k x) (es ++ [])
@@ -112,7 +112,7 @@ module _ (p : Platform) (h : ℕ) where
         stands = subst (Stands up)
             (sym (ap (hart_at (fresh p).harts) (eqb-true h p.boot e)
             ∙ hart-put-same (replicate harts (idle STOPPED)) p.boot (idle STARTED)
-            (rw length-replicate (enabled-under p p.boot on)))) (record { state = refl });
+            (rw length-replicate (enabled_under p p.boot on)))) (record { state = refl });
       })
       (λ e. record {
         place = off;

@@ -23,13 +23,12 @@ use Rattle.rules.specs.Tables.{Tables, own_at, counter_at}
 use Rattle.rules.specs.Counters.{event_reply}
 use Rattle.rules.specs.Events.{times, others, occurs}
 use Rattle.rules.specs.declared.records.Hart.{Hart}
-use Rattle.std.specs.Prelude.{Option}
-use Rattle.std.specs.Prelude.{Some, None}
+use Rattle.std.specs.Prelude.{Option, Some, None}
 use Rattle.rules.specs.declared.actions.Action.{Action}
 use Rattle.rules.specs.declared.platform.Platform.{Platform}
 use Rattle.rules.specs.declared.records.Counter.{Counter}
 use Rattle.rules.proofs.Logic.{if-both}
-use Rattle.rules.proofs.WellFormed.{enabled-under}
+use Rattle.rules.proofs.WellFormed.{enabled_under}
 use Rattle.rules.proofs.Own.{counted-at}
 use Rattle.rules.proofs.Counting.{tell-caller, tell-other}
 use Rattle.rules.proofs.Passed.{if-did, Passed, did-passed, accepted-did}
@@ -44,7 +43,7 @@ module _ (p : Platform) (t : Tables) (op : Operation) (d : Done) (e : reply p t 
   counters-after = ap (λ (r : Reply). (commit t (hart_of op) r).counters) e
 
   inside : hart_of op < length t.counters
-  inside = rw passed.fine.rows (enabled-under p (hart_of op) passed.on)
+  inside = rw passed.fine.rows (enabled_under p (hart_of op) passed.on)
 
   traffic : TrafficCounted p t op d
   unfolding own_at

@@ -8,6 +8,9 @@ use native.Mathlib.Omega.{arith}
 use lib.Dec.{ltb, leb, eqb}
 use lib.ListN.{length, get_or-eq_default}
 use borrow.Author.Tests.{ltb-true, leb-true, eqb-true, lt-ltb, le-ltb, le-leb, eq-eqb, not-true}
+use Rattle.std.proofs.lemmas.Bool.{false_from_ne_true, false≢true, not_from_false}
+use Rattle.std.specs.Cmp.Derive.{both_true}
+use Rattle.std.specs.Cmp.{first_so, second_so}
 use Rattle.rules.specs.Sets.{every}
 use Rattle.rules.specs.Names.{harts, counters, last_code, STOPPED, RESUME_PENDING}
 use Rattle.rules.specs.Platform.{has, enabled, hypervisor, width, used_ranges, range_accepted, platform_accepted}
@@ -22,8 +25,7 @@ use Rattle.rules.specs.declared.platform.Range.{Range}
 use Rattle.rules.specs.declared.platform.Platform.{Platform}
 use Rattle.rules.specs.declared.records.Hart.{Hart}
 use Rattle.rules.specs.declared.records.Counter.{Counter}
-use Rattle.rules.proofs.Logic.{if-true, if-false, by_cases, below_or, clash, false-if, and_l, and_r, and-of}
-use Rattle.rules.proofs.Logic.{not-or, not-or-inv, not-off, false-true}
+use Rattle.rules.proofs.Logic.{if-true, if-false, by_cases, below_or, clash, not-or, not-or-inv}
 use Rattle.rules.proofs.SetLaws.{every-at, every_of}
 use Rattle.rules.proofs.Ascending.{all_in, all_of}
 
@@ -36,9 +38,9 @@ has-over s h l = if-false _ _ (le-ltb h 64 (omega arith)) ∙ if-false _ _ (le-l
 pub has-under : (s : HartSet) (h : ℕ) → has s h ≡ true → h < harts
 has-under s h e = below_or h harts (λ l. l) (λ g. absurd (clash e (has-over s h g)))
 
-pub enabled-under : (p : Platform) (h : ℕ) → enabled p h ≡ true → h < harts
+pub enabled_under : (p : Platform) (h : ℕ) → enabled p h ≡ true → h < harts
 unfolding enabled
-enabled-under p h e = has-under p.enabled h e
+enabled_under p h e = has-under p.enabled h e
 
 pub enabled-over : (p : Platform) (h : ℕ) → harts ≤ h → enabled p h ≡ false
 unfolding enabled
@@ -49,8 +51,8 @@ enabled-over p h l = has-over p.enabled h l
 range-agrees : (w : ℕ) (r : Range) → range_accepted w r ≡ true ↔ ((0 < r.length) × (r.base + r.length ≤ 2 ^ w))
 unfolding range_accepted
 range-agrees w r = (
-  λ e. (ltb-true 0 r.length (and_l _ _ e), leb-true (r.base + r.length) (2 ^ w) (and_r (ltb 0 r.length) _ e)),
-  λ h. and-of (lt-ltb 0 r.length h.0) (le-leb (r.base + r.length) (2 ^ w) h.1),
+  λ e. (ltb-true 0 r.length (first_so _ _ e), leb-true (r.base + r.length) (2 ^ w) (second_so (ltb 0 r.length) _ e)),
+  λ h. both_true (lt-ltb 0 r.length h.0) (le-leb (r.base + r.length) (2 ^ w) h.1),
 )
 
 pub platform-agrees : (p : Platform) → platform_accepted p ≡ true ↔ PlatformAccepted p
@@ -59,31 +61,31 @@ platform-agrees p = (there, back)
   where
     there : platform_accepted p ≡ true → PlatformAccepted p
     there e =
-        let e1 = and_r (enabled p p.boot) _ e in
-        let e2 = and_r (every harts (λ h. not (hypervisor p h) || enabled p h)) _ e1 in
-        let limits = and_l (within_limits p) _ e2 in
-        let widths = and_r (leb p.used 8) _ limits in
+        let e1 = second_so (enabled p p.boot) _ e in
+        let e2 = second_so (every harts (λ h. not (hypervisor p h) || enabled p h)) _ e1 in
+        let limits = first_so (within_limits p) _ e2 in
+        let widths = second_so (leb p.used 8) _ limits in
         record {
-          boot = and_l (enabled p p.boot) _ e;
+          boot = first_so (enabled p p.boot) _ e;
           hypervisors = λ h y.
               not-or-inv (hypervisor p h) (enabled p h)
               (every-at (λ k. not (hypervisor p k) || enabled p k) harts h (has-under p.hypervisor h y)
-              (and_l _ _ e1)) y;
-          ranges = leb-true p.used 8 (and_l _ _ limits);
-          asid = leb-true p.asid 16 (and_l _ _ widths);
-          vmid = leb-true p.vmid 14 (and_r (leb p.asid 16) _ widths);
+              (first_so _ _ e1)) y;
+          ranges = leb-true p.used 8 (first_so _ _ limits);
+          asid = leb-true p.asid 16 (first_so _ _ widths);
+          vmid = leb-true p.vmid 14 (second_so (leb p.asid 16) _ widths);
           used = λ r m.
               (range-agrees (width p) r).0
-              (all_in (range_accepted (width p)) (used_ranges p) (and_r (within_limits p) _ e2) m);
+              (all_in (range_accepted (width p)) (used_ranges p) (second_so (within_limits p) _ e2) m);
         }
 
     back : PlatformAccepted p → platform_accepted p ≡ true
     back a =
-        and-of a.boot
-        (and-of (every_of (λ h. not (hypervisor p h) || enabled p h) harts
+        both_true a.boot
+        (both_true (every_of (λ h. not (hypervisor p h) || enabled p h) harts
         (λ h l. not-or (hypervisor p h) (enabled p h) (a.hypervisors h)))
-        (and-of
-        (and-of (le-leb p.used 8 a.ranges) (and-of (le-leb p.asid 16 a.asid) (le-leb p.vmid 14 a.vmid)))
+        (both_true
+        (both_true (le-leb p.used 8 a.ranges) (both_true (le-leb p.asid 16 a.asid) (le-leb p.vmid 14 a.vmid)))
         (all_of (range_accepted (width p)) (used_ranges p) (λ r m. (range-agrees (width p) r).1 (a.used r m)))))
 
 -- ----- a hart's record
@@ -91,12 +93,12 @@ platform-agrees p = (there, back)
 idle-agrees : (x : Hart) → is_idle x ≡ true → x ≡ idle STOPPED
 unfolding is_idle
 idle-agrees x e =
-    let e1 = and_r (eqb x.state STOPPED) _ e in
-    let e2 = and_r x.retentive _ e1 in
-    let s : x.state ≡ STOPPED = eqb-true _ _ (and_l _ _ e) in
-    let r : x.retentive ≡ true = and_l _ _ e1 in
-    let a : x.address ≡ 0 = eqb-true _ _ (and_l _ _ e2) in
-    let o : x.opaque ≡ 0 = eqb-true _ _ (and_r (eqb x.address 0) _ e2) in
+    let e1 = second_so (eqb x.state STOPPED) _ e in
+    let e2 = second_so x.retentive _ e1 in
+    let s : x.state ≡ STOPPED = eqb-true _ _ (first_so _ _ e) in
+    let r : x.retentive ≡ true = first_so _ _ e1 in
+    let a : x.address ≡ 0 = eqb-true _ _ (first_so _ _ e2) in
+    let o : x.opaque ≡ 0 = eqb-true _ _ (second_so (eqb x.address 0) _ e2) in
     λ i. record { state = s i; retentive = r i; address = a i; opaque = o i }
 
 pub hart-agrees : (p : Platform) (h : ℕ) (x : Hart) → hart_well_formed (enabled p h) x ≡ true ↔ HartFine p h x
@@ -124,15 +126,15 @@ hart-agrees p h x = (there, back)
 
 unmapped : (o : Option ℕ) → is_some o ≡ false → o ≡ None
 unmapped None e = refl
-unmapped (Some k) e = absurd (false-true (sym e))
+unmapped (Some k) e = absurd (false≢true (sym e))
 
 blank-agrees : (c : Counter) → is_blank c ≡ true → c ≡ blank
 unfolding is_blank
 blank-agrees c e =
-    let e1 = and_r (not (is_some c.event)) _ e in
-    let m : c.event ≡ None = unmapped c.event (not-true _ (and_l _ _ e)) in
-    let r : c.running ≡ false = not-true _ (and_l _ _ e1) in
-    let v : c.value ≡ 0 = eqb-true _ _ (and_r (not c.running) _ e1) in
+    let e1 = second_so (not (is_some c.event)) _ e in
+    let m : c.event ≡ None = unmapped c.event (not-true _ (first_so _ _ e)) in
+    let r : c.running ≡ false = not-true _ (first_so _ _ e1) in
+    let v : c.value ≡ 0 = eqb-true _ _ (second_so (not c.running) _ e1) in
     λ i. record { event = m i; running = r i; value = v i }
 
 pub blank-fine : CounterFine blank
@@ -155,7 +157,7 @@ on-back : (o : Option ℕ) (running : Bool) (v : ℕ) → CounterFine (record { 
     → event_well_formed o running ≡ true
 unfolding event_well_formed
 on-back (Some k) r v f = le-leb k last_code (f.codes k refl)
-on-back None r v f = not-off (false-if r (λ q. false-true (f.runs q)))
+on-back None r v f = not_from_false _ (false_from_ne_true r (λ q. false≢true (f.runs q)))
 
 pub counter-agrees : (on : Bool) (c : Counter) → counter_well_formed on c ≡ true
     ↔ (CounterFine c × (on ≡ false → c ≡ blank))
@@ -211,28 +213,28 @@ tables_agree p t = (there, back)
   where
     there : tables_well_formed p t ≡ true → TablesWellFormed p t
     there e =
-        let s = and_l (shaped t) (every harts (hart_row_well_formed p t)) e in
-        let s1 = and_r (eqb (length t.harts) harts) _ s in
+        let s = first_so (shaped t) (every harts (hart_row_well_formed p t)) e in
+        let s1 = second_so (eqb (length t.harts) harts) _ s in
         let eight : (h : ℕ) → h < harts → length (own_at t h) ≡ counters =
         λ h l. eqb-true _ _
         (every-at (λ k. eqb (length (own_at t k)) counters) harts h l
-        (and_r (eqb (length t.counters) harts) _ s1)) in
+        (second_so (eqb (length t.counters) harts) _ s1)) in
         let row : (h : ℕ) → h < harts → hart_row_well_formed p t h ≡ true =
-        λ h l. every-at (hart_row_well_formed p t) harts h l (and_r (shaped t) _ e) in
+        λ h l. every-at (hart_row_well_formed p t) harts h l (second_so (shaped t) _ e) in
         record {
-          records = eqb-true _ _ (and_l _ _ s);
-          rows = eqb-true _ _ (and_l _ _ s1);
-          hart = λ h l. (hart-agrees p h (hart_at t.harts h)).0 (and_l _ _ (row h l));
+          records = eqb-true _ _ (first_so _ _ s);
+          rows = eqb-true _ _ (first_so _ _ s1);
+          hart = λ h l. (hart-agrees p h (hart_at t.harts h)).0 (first_so _ _ (row h l));
           own = λ h l. (own-agrees p h (own_at t h)).0
-              (eight h l, and_r (hart_well_formed (enabled p h) (hart_at t.harts h)) _ (row h l));
+              (eight h l, second_so (hart_well_formed (enabled p h) (hart_at t.harts h)) _ (row h l));
         }
 
     back : TablesWellFormed p t → tables_well_formed p t ≡ true
     back w =
-        and-of
-        (and-of (eq-eqb _ _ w.records)
-        (and-of (eq-eqb _ _ w.rows)
+        both_true
+        (both_true (eq-eqb _ _ w.records)
+        (both_true (eq-eqb _ _ w.rows)
         (every_of (λ k. eqb (length (own_at t k)) counters) harts (λ h l. eq-eqb _ _ (w.own h l).eight))))
         (every_of (hart_row_well_formed p t) harts
-        (λ h l. and-of ((hart-agrees p h (hart_at t.harts h)).1 (w.hart h l))
+        (λ h l. both_true ((hart-agrees p h (hart_at t.harts h)).1 (w.hart h l))
         ((own-agrees p h (own_at t h)).1 (w.own h l)).1))

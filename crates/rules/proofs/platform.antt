@@ -1,4 +1,3 @@
 -- Laws behind the platform's functions.
 pub mod BitLaws
-pub mod RangeLaws
 pub mod HalfLaws

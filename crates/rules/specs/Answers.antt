@@ -4,7 +4,9 @@
 --   refusal_number k   the k of Hk
 --   done v parked n    what was done: the value v, the mark, n actions
 --   Answer             what was done, an error, or Hk
-use Rattle.std.specs.Prelude.{ℕ, ℤ, Bool, Result}
+--   parked_in          whether an answer marks the caller parked
+--   count_in           the number of actions in an answer
+use Rattle.std.specs.Prelude.{ℕ, ℤ, Bool, false, Result, Ok, Err}
 use Rattle.rules.specs.Names.{not_supported, invalid_param, invalid_address, already_available}
 use Rattle.rules.specs.Names.{already_started, already_stopped, no_shared_memory}
 use Rattle.rules.specs.Names.{not_well_formed, not_enabled, not_started, short_memory}
@@ -49,3 +51,13 @@ done v k n = record { value = v; parked = k; actions = n }
 -- what was done, an error, or Hk
 abbrev pub Answer : Type 0
 Answer = Result Success Denial
+
+-- a refusal and an error mark nobody
+abbrev pub parked_in : Answer → Bool
+parked_in (Ok d) = d.parked
+parked_in (Err d) = false
+
+-- and give no action
+abbrev pub count_in : Answer → ℕ
+count_in (Ok d) = d.actions
+count_in (Err d) = 0

@@ -6,8 +6,7 @@ use Rattle.std.specs.Prelude.{ltb, leb, eqb, set}
 use Rattle.std.specs.Prelude.{Option, Some, None, is_some}
 use Rattle.rules.specs.Choice.{when◌then◌else◌}
 use Rattle.rules.specs.Sets.{bit, numbers, keep, all, first}
-use Rattle.rules.specs.Names.{counters, first_event, last_event, last_reported}
-use Rattle.rules.specs.Names.{firmware_counter}
+use Rattle.rules.specs.Names.{counters, first_event, last_event, last_reported, firmware_counter}
 use Rattle.rules.specs.Platform.{width}
 use Rattle.rules.specs.Tables.{counter_at}
 use Rattle.rules.specs.Replies.{View, Reply, refused, Plain, fails, gives, plain, counted}

@@ -16,8 +16,7 @@ use Rattle.rules.specs.Replies.{count_at, tell_one, tell, commit}
 use Rattle.rules.specs.Masks.{selected, selection_fits, is_reached, reached, send_to}
 use Rattle.rules.specs.Fences.{sent_code, id_valid, hypervisors_fit, range_valid}
 use Rattle.rules.specs.Fences.{interrupt_reply, fence_reply}
-use Rattle.rules.specs.Harts.{done_of, suspend_of, start_reply, suspend_reply, goes_on}
-use Rattle.rules.specs.Harts.{done_reply}
+use Rattle.rules.specs.Harts.{done_of, suspend_of, start_reply, suspend_reply, goes_on, done_reply}
 use Rattle.rules.specs.Counters.{counter_set, is_counter, each, is_mapped, is_running}
 use Rattle.rules.specs.Counters.{not_running, is_event, chosen, configured, configure_chosen}
 use Rattle.rules.specs.Counters.{configure_reply, begun, counter_start_reply, can_read}

@@ -7,8 +7,7 @@ use Rattle.rules.specs.Names.{SUSPEND_PENDING, RESUME_PENDING, retentive_type}
 use Rattle.rules.specs.Names.{non_retentive_type}
 use Rattle.rules.specs.Platform.{enabled, valid_address}
 use Rattle.rules.specs.Tables.{idle, in_state, hart_at, state_of}
-use Rattle.rules.specs.Replies.{View, Reply, refused, failed, moves, Plain, fails, gives}
-use Rattle.rules.specs.Replies.{enter}
+use Rattle.rules.specs.Replies.{View, Reply, refused, failed, moves, Plain, fails, gives, enter}
 use Rattle.rules.specs.declared.platform.Platform.{Platform}
 use Rattle.rules.specs.declared.records.Hart.{Hart}
 use Rattle.rules.specs.declared.actions.Action.{Action}

@@ -6,8 +6,7 @@ use Rattle.rules.specs.declared.answers.Error.{Error}
 use Rattle.rules.specs.declared.answers.Error.TheVariants.{NotSupported, InvalidParam}
 use Rattle.rules.specs.declared.answers.Refusal.{Refusal}
 use Rattle.rules.specs.declared.answers.Refusal.TheVariants.{NotReportable}
-use Rattle.rules.specs.declared.ids.CounterId.{CounterId}
-use Rattle.rules.specs.declared.ids.EventCode.{EventCode}
+use Rattle.rules.specs.Numbers.{CounterId, EventCode}
 
 -- "numbers over 7 are -3"
 abbrev pub CounterGiven : (i : ℕ) → Result CounterId Error → Type 0

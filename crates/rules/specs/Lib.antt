@@ -3,6 +3,7 @@ pub mod Choice
 pub mod Sets
 pub mod Names
 pub mod Answers
+pub mod Numbers
 pub mod Platform
 pub mod Tables
 pub mod Replies

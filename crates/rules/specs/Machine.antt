@@ -11,8 +11,7 @@ use Rattle.rules.specs.Platform.{platform_accepted, enabled}
 use Rattle.rules.specs.Tables.{fresh, Tables, state_of, well_formed}
 use Rattle.rules.specs.Names.{action_memory, counters, STARTED}
 use Rattle.rules.specs.Choice.{when◌then◌else◌}
-use Rattle.rules.specs.Replies.{View, view, Reply, refused, Plain, fails, gives, plain}
-use Rattle.rules.specs.Replies.{commit}
+use Rattle.rules.specs.Replies.{View, view, Reply, refused, Plain, fails, gives, plain, commit}
 use Rattle.rules.specs.Base.{spec_version, probed}
 use Rattle.rules.specs.Fences.{interrupt_reply, fence_reply}
 use Rattle.rules.specs.Harts.{start_reply, stop_reply, status_reply, suspend_reply, done_reply}

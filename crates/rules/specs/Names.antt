@@ -166,6 +166,10 @@ last_event = 0xF0015
 abbrev pub last_code : ℕ
 last_code = 21
 
+-- how many codes there are
+abbrev pub codes : ℕ
+codes = 22
+
 abbrev pub last_reported : ℕ
 last_reported = 5
 

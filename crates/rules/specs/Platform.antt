@@ -11,7 +11,7 @@ use mathlib.Core.List.{List, Memᴰ}
 use Rattle.rules.specs.Choice.{when◌then◌else◌}
 use Rattle.rules.specs.Sets.{bit, every, all, any}
 use Rattle.rules.specs.Names.{harts, max_ranges, max_asid_width, max_vmid_width}
-use Rattle.rules.specs.declared.ids.HartId.{HartId}
+use Rattle.rules.specs.Numbers.{HartId}
 use Rattle.rules.specs.declared.platform.HartSet.{HartSet}
 use Rattle.rules.specs.declared.platform.Range.{Range}
 use Rattle.rules.specs.declared.platform.Platform.{Platform}

@@ -2,7 +2,7 @@
 use mathlib.Core.List.{Memᴰ, List, [], ◌∷◌, map}
 use Rattle.std.specs.Prelude.{Bool, ◌&&◌, ◌||◌, true, false, ◌≡◌, ◌<◌, ℕ, length, eqb, ℤ, None}
 use Rattle.std.specs.Prelude.{Ok, Err}
-use Rattle.rules.specs.Answers.{done}
+use Rattle.rules.specs.Answers.{done, error_number, refusal_number, parked_in, count_in}
 use Rattle.rules.specs.Requests.{LifeRequest, PlainRequest, Request, base_architecture}
 use Rattle.rules.specs.Requests.{base_implementation, base_implementation_version, base_machine}
 use Rattle.rules.specs.Requests.{base_probe, base_vendor, base_version, counter_configure}
@@ -19,7 +19,7 @@ use Rattle.rules.specs.Machine.{reply, after}
 use Rattle.rules.specs.Harts.{done_of, wake_of}
 use Rattle.rules.specs.Platform.{enabled}
 use Rattle.rules.specs.Replies.{Done, Reply, refused, failed, did, accepted, answer_of}
-use Rattle.rules.specs.Replies.{actions_of, memory_after, register}
+use Rattle.rules.specs.Replies.{actions_of, memory_after, pair_of, register}
 use Rattle.rules.specs.declared.answers.Error.{Error}
 use Rattle.rules.specs.declared.answers.Refusal.{Refusal}
 use Rattle.rules.specs.declared.answers.Denial.TheVariants.{Refused, Failed}
@@ -30,7 +30,7 @@ use Rattle.rules.specs.declared.answers.Error.TheVariants.{AlreadyStarted, Alrea
 use Rattle.rules.specs.declared.answers.Error.TheVariants.{NoSharedMemory}
 use Rattle.rules.specs.declared.answers.Refusal.TheVariants.{NotWellFormed, NotEnabled, NotStarted}
 use Rattle.rules.specs.declared.answers.Refusal.TheVariants.{ShortMemory, StateForbids}
-use Rattle.rules.specs.declared.answers.Refusal.TheVariants.{NotReportable}
+use Rattle.rules.specs.declared.answers.Refusal.TheVariants.{NotReportable, UnknownKind, BlockCheck}
 
 -- "Every refusal, error pairs included, leaves the tables and all action memory unaltered; the
 -- front part handed back is then empty."
@@ -130,6 +130,17 @@ pub data Listed (op : Operation) : Reply → Type 0 where
 abbrev pub RefusalsListed : Type 0
 RefusalsListed = (p : Platform) (t : Tables) (op : Operation) → Listed op (reply p t op)
 
+-- "A refusal gives its listed number": that of each host refusal, and of each error
+pub record NumbersListed : Type 0 where
+  pub refusals : map refusal_number
+      (NotWellFormed ∷ NotEnabled ∷ NotStarted ∷ ShortMemory ∷ StateForbids ∷ NotReportable
+      ∷ UnknownKind ∷ BlockCheck ∷ []) ≡ 1 ∷ 2 ∷ 3 ∷ 4 ∷ 5 ∷ 6 ∷ 7 ∷ 8 ∷ []
+  pub errors : map error_number
+      (NotSupported ∷ InvalidParam ∷ InvalidAddress ∷ AlreadyAvailable ∷ AlreadyStarted
+      ∷ AlreadyStopped ∷ NoSharedMemory ∷ [])
+      ≡ not_supported ∷ invalid_param ∷ invalid_address ∷ already_available ∷ already_started
+      ∷ already_stopped ∷ no_shared_memory ∷ []
+
 -- "-3 stands in the register as 18446744073709551613": what a0 holds for success and each error
 abbrev pub errors : List ℤ
 errors =
@@ -161,6 +172,15 @@ pub record AnswerExact (r : Reply) : Type 0 where
   pub error : (e : Error) → r ≡ failed e → answer_of r ≡ Err (Failed e)
   pub done : (d : Done) → r ≡ did d
       → answer_of r ≡ Ok (done d.value d.parked (length d.actions))
+  -- no mark and no action where it was not done
+  pub bare : accepted r ≡ false
+      → (parked_in (answer_of r) ≡ false) × (count_in (answer_of r) ≡ 0)
+  -- what a0 and a1 hold
+  pub no_pair : (k : Refusal) → r ≡ refused k → pair_of (answer_of r) ≡ []
+  pub error_pair : (e : Error) → r ≡ failed e
+      → pair_of (answer_of r) ≡ register (error_number e) ∷ 0 ∷ []
+  pub done_pair : (d : Done) → r ≡ did d
+      → pair_of (answer_of r) ≡ register success ∷ d.value ∷ []
 
 -- of every operation
 abbrev pub AnswersExact : Type 0

@@ -7,8 +7,7 @@ use Rattle.rules.specs.Tables.{Tables, state_of, fresh}
 use Rattle.rules.specs.Replies.{accepted}
 use Rattle.rules.specs.Requests.{LifeRequest, hart_start, hart_stop, hart_suspend, Request}
 use Rattle.rules.specs.Requests.{life, other, request}
-use Rattle.rules.specs.Machine.{Operation, call, completion, waking, event, reply, after}
-use Rattle.rules.specs.Machine.{after_all}
+use Rattle.rules.specs.Machine.{Operation, call, completion, waking, event, reply, after, after_all}
 use Rattle.rules.specs.Lives.{Event, start, stop, suspend, done, wake}
 use Rattle.rules.specs.declared.platform.Platform.{Platform}
 

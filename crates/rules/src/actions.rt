@@ -117,9 +117,11 @@ impl TryFrom<u64> for Fence {
 // "fences FID 0 to 6: 8, 10, 12, 16, 14, 20, 18"
 const SENT: [u64; 7] = [8, 10, 12, 16, 14, 20, 18];
 
-// The code of a sent fence by its function; 0 where there is no such function.
+// The code of a sent fence by its function; 0 where there is no such function. It takes any number
+// and not a `Fence`, since it is promised for any.
+#[tactic(auto, unfolding(crate::specs::Fences::sent_code))]
 pub fn sent_code(fid: u64) -> u64
     ensures { result ≡ sent_code fid }
 {
-    if fid < 7 { SENT[fid as usize] } else { 0 }
+    SENT.get(fid as usize).copied().unwrap_or(0)
 }

@@ -134,9 +134,8 @@ impl Success {
         ensures { result ≡ done 0 false actions }
     {
         Success {
-            value: 0,
-            parked: false,
             actions,
+            ..Success::value(0)
         }
     }
 
@@ -145,9 +144,8 @@ impl Success {
         ensures { result ≡ done 0 true 0 }
     {
         Success {
-            value: 0,
             parked: true,
-            actions: 0,
+            ..Success::value(0)
         }
     }
 }
@@ -170,6 +168,7 @@ impl From<Error> for Denial {
 
 // The value that stands in a register for an error: "-3 stands in the register as
 // 18446744073709551613".
+#[tactic(auto, unfolding(crate::specs::Replies::register))]
 pub fn register(error: i64) -> u64
     ensures { result ≡ register error }
 {

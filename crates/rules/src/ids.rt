@@ -1,44 +1,29 @@
 // Numbers that their type keeps in range.
-ghost use Rattle.std.specs.Prelude.{◌≡◌, ◌<◌, ◌≤◌};
-ghost use Rattle.rules.specs.Names.{harts, counters, last_code};
+ghost use Rattle.std.specs.Prelude.{◌≡◌, ◌<◌};
 
 use crate::answers::{Error, Refusal};
-use crate::numbers::{COUNTERS, FIRST_EVENT, LAST_EVENT, LAST_REPORTED};
+use crate::numbers::{CODES, COUNTERS, FIRST_EVENT, HARTS, LAST_EVENT, LAST_REPORTED};
+
+// A number below N.
+#[derive(Clone, Copy, Debug, PartialEq, Eq)]
+pub struct Below<const N: u64> {
+    pub number: u64,
+    pub ghost in_range: { number < N },
+}
 
 // "Hart numbers 0 to 127."
-#[derive(Clone, Copy, Debug, PartialEq, Eq)]
-pub struct HartId {
-    pub number: u64,
-    pub ghost in_range: { number < harts },
-}
+pub type HartId = Below<HARTS>;
 
 // "Eight counters a hart."
-#[derive(Clone, Copy, Debug, PartialEq, Eq)]
-pub struct CounterId {
-    pub number: u64,
-    pub ghost in_range: { number < counters },
-}
+pub type CounterId = Below<COUNTERS>;
 
 // "a mapped code is 0 to 21"
-#[derive(Clone, Copy, Debug, PartialEq, Eq)]
-pub struct EventCode {
-    pub number: u64,
-    pub ghost in_range: { number ≤ last_code },
-}
+pub type EventCode = Below<CODES>;
 
-impl HartId {
-    // Its place among the rows.
+impl<const N: u64> Below<N> {
+    // As an index.
     pub fn index(self) -> usize
-        ensures { result ≡ self.number }
-    {
-        self.number as usize
-    }
-}
-
-impl CounterId {
-    // Its place in a row.
-    pub fn index(self) -> usize
-        ensures { result ≡ self.number }
+        ensures { result ≡ self.entry.number }
     {
         self.number as usize
     }
@@ -52,6 +37,7 @@ impl TryFrom<u64> for CounterId {
 
     ghost try_from_gives = { λ i r. CounterGiven i r };
 
+    #[tactic(auto, unfolding(crate::specs::Counters::is_counter))]
     fn try_from(i: u64) -> Result<CounterId, Error> {
         if i < COUNTERS {
             return Ok(CounterId { number: i });
@@ -64,6 +50,7 @@ impl EventCode {
     ghost use Rattle.rules.specs.Ids.{EventGiven, ReportGiven};
 
     // "Events 0xF0000 to 0xF0015 only."
+    #[tactic(auto, unfolding(crate::specs::Counters::is_event))]
     pub fn of_event(event: u64) -> Result<EventCode, Error>
         ensures { EventGiven event result }
     {

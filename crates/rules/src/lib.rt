@@ -3,8 +3,8 @@
 #![tactic(auto)]
 
 pub mod numbers; // every number of document 01 under its name
+pub mod answers; // the registers of a call, what is answered, the register's value of an error
 pub mod ids; // numbers that their type keeps in range
 pub mod platform; // the platform record
 pub mod records; // a hart's record and a counter
-pub mod answers; // the registers of a call, what is answered, the register's value of an error
 pub mod actions; // what another hart has to do, and the events that it counts as

@@ -81,7 +81,7 @@ pub const RETENTIVE: u64 = 0;
 pub const NON_RETENTIVE: u64 = 0x80000000;
 
 // The base that selects all enabled harts, and the size that means the whole space: 2^64 - 1.
-pub const ALL_ONES: u64 = 18446744073709551615;
+pub const ALL_ONES: u64 = u64::MAX;
 
 // "action memory under 640 words": one action of five words for each of 128 harts.
 pub const ACTION_WORDS: usize = 5;
@@ -103,10 +103,12 @@ pub const LAST_EVENT: u64 = 0xF0015;
 
 pub const LAST_CODE: u64 = 21;
 
+pub const CODES: u64 = LAST_CODE + 1;
+
 pub const LAST_REPORTED: u64 = 5;
 
 // The code of a sent interrupt; a received event's code is its sent one's plus 1.
 pub const INTERRUPT_SENT: u64 = 6;
 
 // Counter details: a firmware counter.
-pub const FIRMWARE_COUNTER: u64 = 9223372036854775808;
+pub const FIRMWARE_COUNTER: u64 = 1 << 63;

@@ -1,7 +1,7 @@
 // The platform record: what a module is made of.
 ghost use Rattle.std.specs.Prelude.{◌≡◌, not, ◌||◌, ◌<◌};
 ghost use Rattle.rules.specs.Names.{harts};
-ghost use Rattle.rules.specs.Sets.{bit, every};
+ghost use Rattle.rules.specs.Sets.{bit, every, all};
 ghost use Rattle.rules.specs.Platform.{has, enabled, hypervisor, used_ranges};
 ghost use Rattle.rules.specs.Platform.{lies_in, valid_address, range_accepted, within_limits};
 ghost use Rattle.rules.specs.Platform.{platform_accepted, HartGiven};
@@ -29,8 +29,9 @@ pub struct Platform {
     // those with the hypervisor extension
     pub hypervisor: HartSet,
     pub boot: u64,
-    // How many of the ranges are used; the others are never looked at. A count beside an array, since
-    // the host lays the record out, and a count over 8 is a ground of H1 (`platform_accepted`).
+    // How many of the ranges are used; the others are never looked at. A count beside an array,
+    // since the host lays the record out, and a count over 8 is a ground of H1
+    // (`platform_accepted`).
     pub used: u64,
     pub ranges: [Range; 8],
     // the widths of ASID and VMID in bits
@@ -45,6 +46,7 @@ pub struct Platform {
 }
 
 // Bit i of a word.
+#[tactic(auto, unfolding(crate::specs::Sets::bit))]
 pub fn bit_of(word: u64, i: u64) -> bool
     requires { i < 64 }
     ensures { result ≡ bit word i }
@@ -54,6 +56,7 @@ pub fn bit_of(word: u64, i: u64) -> bool
 
 impl HartSet {
     // Whether hart h is in the set: no number over 127 is.
+    #[tactic(auto, using(crate::proofs::Logic::choice), unfolding(crate::specs::Platform::has))]
     pub fn has(self, h: u64) -> bool
         ensures { result ≡ has self h }
     {
@@ -74,6 +77,7 @@ impl HartSet {
 
 impl Range {
     // Whether an address lies in it: "base ≤ address < base + length".
+    #[tactic(auto, unfolding(crate::specs::Platform::lies_in))]
     pub fn holds(self, a: u64) -> bool
         ensures { result ≡ lies_in a self }
     {
@@ -81,6 +85,7 @@ impl Range {
     }
 
     // Whether it is neither of "length zero" nor "runs past 2^64".
+    #[tactic(auto, unfolding(crate::specs::Platform::range_accepted))]
     pub fn accepted(self) -> bool
         ensures { result ≡ range_accepted 64 self }
     {
@@ -90,6 +95,7 @@ impl Range {
 
 impl Platform {
     // The ranges that are used.
+    #[tactic(auto, unfolding(crate::specs::Platform::used_ranges))]
     fn used_ranges(&self) -> &[Range]
         ensures { result.now ≡ used_ranges self.now }
     {
@@ -97,6 +103,7 @@ impl Platform {
     }
 
     // Whether hart h is enabled.
+    #[tactic(auto, unfolding(crate::specs::Platform::enabled))]
     pub fn is_enabled(&self, h: u64) -> bool
         ensures { result ≡ enabled self.now h }
     {
@@ -104,6 +111,7 @@ impl Platform {
     }
 
     // Hart h, if it is enabled: "the hart number is not enabled or is over 127" is H2.
+    #[tactic(auto, using(crate::proofs::WellFormed::enabled_under))]
     pub fn hart(&self, h: u64) -> Option<HartId>
         ensures { HartGiven self.now h result }
     {
@@ -114,6 +122,7 @@ impl Platform {
     }
 
     // Whether hart h has the hypervisor extension.
+    #[tactic(auto, unfolding(crate::specs::Platform::hypervisor))]
     pub fn has_hypervisor(&self, h: u64) -> bool
         ensures { result ≡ hypervisor self.now h }
     {
@@ -121,10 +130,19 @@ impl Platform {
     }
 
     // Whether a hart may be sent to an address: "it is even and lies in a range".
+    #[tactic(auto, unfolding(crate::specs::Platform::valid_address))]
     pub fn valid_address(&self, a: u64) -> bool
         ensures { result ≡ valid_address self.now a }
     {
         a % 2 == 0 && self.used_ranges().iter().any(|range| range.holds(a))
+    }
+
+    // Whether each hart with the hypervisor extension is enabled.
+    #[tactic(auto, unfolding(crate::specs::Platform::enabled, crate::specs::Platform::hypervisor))]
+    fn hypervisors_enabled(&self) -> bool
+        ensures { result ≡ every harts (λ h. not (hypervisor self.now h) || enabled self.now h) }
+    {
+        self.enabled.covers(self.hypervisor)
     }
 
     // Whether no "count or width is over its limit".
@@ -134,13 +152,21 @@ impl Platform {
         self.used <= MAX_RANGES && self.asid <= MAX_ASID_WIDTH && self.vmid <= MAX_VMID_WIDTH
     }
 
+    // Whether no used range is of "length zero" or "runs past 2^64".
+    fn ranges_accepted(&self) -> bool
+        ensures { result ≡ all (range_accepted 64) (used_ranges self.now) }
+    {
+        self.used_ranges().iter().all(|range| range.accepted())
+    }
+
     // Whether no ground of H1 holds against it.
+    #[tactic(auto, unfolding(crate::specs::Platform::platform_accepted))]
     pub fn accepted(&self) -> bool
         ensures { result ≡ platform_accepted self.now }
     {
         self.is_enabled(self.boot)
-            && self.enabled.covers(self.hypervisor)
+            && self.hypervisors_enabled()
             && self.within_limits()
-            && self.used_ranges().iter().all(|range| range.accepted())
+            && self.ranges_accepted()
     }
 }

@@ -37,6 +37,7 @@ impl Hart {
     }
 
     // "Done: 2 to 0, 3 to 1, 5 to 4, 6 to 0."
+    #[tactic(auto, using(crate::proofs::Logic::choice), unfolding(crate::specs::Harts::done_of))]
     pub fn done(self) -> Option<Hart>
         ensures { result ≡ done_of self }
     {
@@ -49,6 +50,7 @@ impl Hart {
     }
 
     // "Wake: 4 to 6 only."
+    #[tactic(auto, using(crate::proofs::Logic::choice), unfolding(crate::specs::Harts::wake_of))]
     pub fn wake(self) -> Option<Hart>
         ensures { result ≡ wake_of self }
     {
@@ -59,6 +61,7 @@ impl Hart {
     }
 
     // "An accepted suspend writes the sleep note (retentive, 0, 0 for type 0)"
+    #[tactic(auto, using(crate::proofs::Logic::choice), unfolding(crate::specs::Harts::suspend_of))]
     pub fn suspend(self, retentive: bool, address: u64, opaque: u64) -> Hart
         ensures { result ≡ suspend_of retentive address opaque }
     {

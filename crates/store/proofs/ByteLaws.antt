@@ -1,8 +1,11 @@
--- Laws of a word's bytes: a byte by a shift, a byte put anew, and that the bytes are the word.
+-- Laws of a word's bytes: a byte put anew, that the bytes are the word, and the bytes as the library lists them.
 --   past w i          what is left of a word past its first i bytes
-use Rattle.std.proofs.Common.{◌≡◌, ℕ, zero, suc, ◌+◌, ◌-◌, ◌*◌, ◌/◌, ◌%◌, ◌^◌, ◌<◌, ◌≤◌, sym, refl, ap, ◌∙◌, ap₂, mod-lt, div-one, mul_left_comm, arith, lit<, pow-add}
-use native.Mathlib.Nat.{div-div-eq-div-mul}
-use lib.Pow.{pow-lt}
+use Rattle.std.proofs.Common.{◌≡◌, ℕ, zero, suc, ◌+◌, ◌*◌, ◌/◌, ◌%◌, ◌^◌, ◌<◌, List, length, get_or, set, sym, refl, ap, ◌∙◌, subst, mod-lt, arith, lit<, length-set, get_or-set_other, get_or-set_same}
+use native.Mathlib.Decide.{ℕ_discrete}
+use Rattle.std.specs.Int.{to_le_bytes, from_le_bytes, w64}
+use Rattle.std.proofs.lemmas.Nat.{le_bytes_8}
+use Rattle.std.proofs.lemmas.List.{get_or_past}
+use Rattle.rules.proofs.Logic.{below_or}
 use Rattle.store.specs.Rows.{byte, with_byte}
 
 unfoldable pub past : ℕ → ℕ → ℕ
@@ -14,22 +17,9 @@ unfolding byte past
 byte_past w zero = refl
 byte_past w (suc i) = byte_past (w / 256) i
 
-pub past-none : (w : ℕ) → past w 0 ≡ w
-unfolding past
-past-none w = refl
-
-pub past_more : (w i : ℕ) → past w (suc i) ≡ past w i / 256
-unfolding past
-past_more w zero = refl
-past_more w (suc i) = past_more (w / 256) i
-
 pub past_all : (w : ℕ) → w < 2 ^ 64 → past w 8 ≡ 0
 unfolding past
 past_all w l = omega arith
-
-past_word : (w : ℕ) → past w 8 ≡ 0 → w < 2 ^ 64
-unfolding past
-past_word w e = omega arith
 
 -- the bytes are the word
 pub bytes_one : (n w v : ℕ) → past w n ≡ past v n → ((i : ℕ) → i < n → byte w i ≡ byte v i) → w ≡ v
@@ -47,20 +37,6 @@ byte-none (suc i) = byte-none i
 
 pub byte_small : (w i : ℕ) → byte w i < 256
 byte_small w i = rw (byte_past w i) (mod-lt (past w i) (lit< tt))
-
--- ----- a byte by a shift
-
-pow_8 : (i : ℕ) → 256 * 2 ^ (8 * i) ≡ 2 ^ (8 * suc i)
-pow_8 i = sym (pow-add 2 8 (8 * i)) ∙ ap (λ (k : ℕ). 2 ^ k) (let z : 8 + 8 * i ≡ 8 * suc i = omega arith in z)
-
-past_shift : (w i : ℕ) → past w i ≡ w / 2 ^ (8 * i)
-unfolding past
-past_shift w zero = sym (div-one w)
-past_shift w (suc i) =
-    past_shift (w / 256) i ∙ div-div-eq-div-mul w 256 (2 ^ (8 * i)) ∙ ap (λ (n : ℕ). w / n) (pow_8 i)
-
-pub byte-shift : (w i : ℕ) → byte w i ≡ w / 2 ^ (8 * i) % 256
-byte-shift w i = byte_past w i ∙ ap (λ (n : ℕ). n % 256) (past_shift w i)
 
 -- ----- a byte put anew
 
@@ -98,47 +74,45 @@ module _ (b : ℕ) (l : b < 256) where
       ap (λ (x : ℕ). past x n) (digit-up (with_byte (w / 256) i b) (w % 256) (rest w))
       ∙ past-with n i (w / 256) (omega arith)
 
-  pub with-small : (w i : ℕ) → i < 8 → w < 2 ^ 64 → with_byte w i b < 2 ^ 64
-  with-small w i m s = past_word (with_byte w i b) (past-with 8 i w m ∙ past_all w s)
+-- ----- the bytes as the library's list
 
--- the same by one difference and one sum
-with-sum : (i w b : ℕ) → with_byte w i b + byte w i * 2 ^ (8 * i) ≡ w + b * 2 ^ (8 * i)
-unfolding byte with_byte
-with-sum zero w b = let z : (w / 256 * 256 + b) + w % 256 * 1 ≡ w + b * 1 = omega arith in z
-with-sum (suc i) w b =
-    let P = 2 ^ (8 * i) in
-    let y = byte (w / 256) i in
-    let h = with-sum i (w / 256) b in
-    let u : y * 2 ^ (8 * suc i) ≡ 256 * (y * P) = ap (λ (n : ℕ). y * n) (sym (pow_8 i)) ∙ mul_left_comm y 256 P in
-    let v : b * 2 ^ (8 * suc i) ≡ 256 * (b * P) = ap (λ (n : ℕ). b * n) (sym (pow_8 i)) ∙ mul_left_comm b 256 P in
-    omega (arith, h, u, v)
-
-byte-under : (i w : ℕ) → byte w i * 2 ^ (8 * i) ≤ w
+pub le-byte : (w i : ℕ) → i < 8 → get_or (to_le_bytes w64 w) i 0 ≡ byte w i
 unfolding byte
-byte-under zero w = let z : w % 256 * 1 ≤ w = omega arith in z
-byte-under (suc i) w =
-    let P = 2 ^ (8 * i) in
-    let y = byte (w / 256) i in
-    let h = byte-under i (w / 256) in
-    let u : y * 2 ^ (8 * suc i) ≡ 256 * (y * P) = ap (λ (n : ℕ). y * n) (sym (pow_8 i)) ∙ mul_left_comm y 256 P in
-    omega (arith, h, u)
+le-byte w zero l = refl
+le-byte w (suc zero) l = omega arith
+le-byte w (suc (suc zero)) l = omega arith
+le-byte w (suc (suc (suc zero))) l = omega arith
+le-byte w (suc (suc (suc (suc zero)))) l = omega arith
+le-byte w (suc (suc (suc (suc (suc zero))))) l = omega arith
+le-byte w (suc (suc (suc (suc (suc (suc zero)))))) l = omega arith
+le-byte w (suc (suc (suc (suc (suc (suc (suc zero))))))) l = omega arith
+le-byte w (suc (suc (suc (suc (suc (suc (suc (suc i)))))))) l = absurd (omega arith)
 
--- what the code computes: y is the old byte, as it read it
-module _ (w i b y : ℕ) (l : i < 8) (e : y ≡ byte w i) where
-  abbrev place : ℕ
-  place = 1 * 2 ^ (8 * i) % 18446744073709551616
+-- the word read from the bytes with byte i put anew
+module _ (w i b n : ℕ) (s : w < 2 ^ 64) (t : n < 2 ^ 64) (l : i < 8) (m : b < 256) where
+  abbrev put : List ℕ
+  put = set (to_le_bytes w64 w) i b
 
-  place_is : place ≡ 2 ^ (8 * i)
-  place_is =
-      let a : 8 * i < 64 = omega arith in
-      let b = pow-lt a in
-      omega (arith, b)
+  put-long : length put ≡ 8
+  put-long = length-set (to_le_bytes w64 w) i b
 
-  pub taken-under : y * place ≤ w
-  taken-under = rw (e, place_is) (byte-under i w)
+  put-at : (j : ℕ) → j < 8 → get_or put j 0 ≡ byte (with_byte w i b) j
+  put-at j k =
+      elim (ℕ_discrete j i) [
+        | yes z ↦ subst (λ (a : ℕ). get_or put a 0 ≡ byte (with_byte w i b) a) (sym z)
+            (get_or-set_same (to_le_bytes w64 w) i b 0 l ∙ sym (byte-with b m i w))
+        | no z ↦ get_or-set_other (to_le_bytes w64 w) i j b 0 z ∙ le-byte w j k
+            ∙ sym (byte-else b m i j w (λ q. z (sym q)))
+      ]
 
-  pub put_is : w - y * place + b * place ≡ with_byte w i b
-  put_is =
-      let p : y * place ≡ byte w i * 2 ^ (8 * i) = ap₂ (λ (a b : ℕ). a * b) e place_is in
-      let q : b * place ≡ b * 2 ^ (8 * i) = ap (λ (n : ℕ). b * n) place_is in
-      omega (arith, p, q, with-sum i w b, taken-under)
+  put-small : (j : ℕ) → get_or put j 0 < 256
+  put-small j =
+      below_or j 8
+      (λ k. subst (λ (x : ℕ). x < 256) (sym (put-at j k)) (byte_small (with_byte w i b) j))
+      (λ k. subst (λ (x : ℕ). x < 256) (sym (get_or_past put j 0 (rw put-long k))) (lit< tt))
+
+  pub from-bytes : n ≡ from_le_bytes w64 put → n ≡ with_byte w i b
+  from-bytes e =
+      bytes_one 8 n (with_byte w i b) (past_all n t ∙ sym (past-with b m 8 i w l ∙ past_all w s))
+      (λ j k. sym (le-byte n j k) ∙ ap (λ (bs : List ℕ). get_or bs j 0) (le_bytes_8 put n put-long put-small e)
+      ∙ put-at j k)

@@ -2,8 +2,9 @@
 -- 44, and carries nowhere.
 use Rattle.std.proofs.Common.{◌≡◌, ℕ, zero, suc, ◌+◌, ◌*◌, ◌/◌, ◌%◌, ◌^◌, ◌<◌, Bool, true, false, not, ◌&&◌, eqb, leb, sym, refl, ap, ◌∙◌, ap₂, mod-lt, arith, lit<, eq-eqb, eqb-true}
 use lib.Bits.{bit_and, bit_or, and_block, or_block, or_lt, and_le_r, and_zero_r}
+use Rattle.std.specs.Cmp.Derive.{both_true}
+use Rattle.std.specs.Cmp.{first_so, second_so, both_ways}
 use Rattle.rules.specs.Sets.{every}
-use Rattle.rules.proofs.Logic.{and_l, and_r, and-of, same_test}
 use Rattle.rules.proofs.SetLaws.{every-at}
 use Rattle.store.specs.Rows.{byte}
 
@@ -62,11 +63,11 @@ step n q b l =
 
 parts : (x y : ℕ) → eqb (x * 256 + y) 0 ≡ (eqb x 0 && eqb y 0)
 parts x y =
-    same_test (eqb (x * 256 + y) 0) (eqb x 0 && eqb y 0)
-    (λ e. let z = eqb-true (x * 256 + y) 0 e in and-of (eq-eqb x 0 (omega arith)) (eq-eqb y 0 (omega arith)))
+    both_ways (eqb (x * 256 + y) 0) (eqb x 0 && eqb y 0)
+    (λ e. let z = eqb-true (x * 256 + y) 0 e in both_true (eq-eqb x 0 (omega arith)) (eq-eqb y 0 (omega arith)))
     (λ e.
-    let a = eqb-true x 0 (and_l (eqb x 0) (eqb y 0) e) in
-    let b = eqb-true y 0 (and_r (eqb x 0) (eqb y 0) e) in
+    let a = eqb-true x 0 (first_so (eqb x 0) (eqb y 0) e) in
+    let b = eqb-true y 0 (second_so (eqb x 0) (eqb y 0) e) in
     eq-eqb (x * 256 + y) 0 (omega arith))
 
 swap : (a b c : Bool) → ((a && b) && c) ≡ ((a && c) && b)
@@ -76,7 +77,7 @@ swap true false true = refl
 swap true false false = refl
 swap false b c = refl
 
-every_front : (n : ℕ) (f : ℕ → Bool) → every (suc n) f ≡ (every n (λ i. f (suc i)) && f 0)
+pub every_front : (n : ℕ) (f : ℕ → Bool) → every (suc n) f ≡ (every n (λ i. f (suc i)) && f 0)
 unfolding every
 every_front zero f = refl
 every_front (suc n) f =

@@ -1,17 +1,19 @@
 -- Laws of an event in a row, counter by counter: the way the loop goes.
 --   counted_one r i e     the row with counter i counted, if it runs and has the code e
 --   counted_to n r e      the row with its first n counters counted
-use Rattle.std.proofs.Common.{◌≡◌, ℕ, zero, suc, ◌+◌, ◌-◌, ◌/◌, ◌%◌, ◌^◌, ◌<◌, ◌≤◌, false, ◌&&◌, eqb, List, map, length, get_or, set, sym, refl, ap, ◌∙◌, subst, ap₂, ⊎_elim, le_of_suc-le-suc, not-suc-le-zero, mod-lt, eq-or-lt_of_le, arith, lit<, get_or-set_other, get_or-set_same, eq-eqb, ne_eqb, eqb-true}
+use Rattle.std.proofs.Common.{◌≡◌, ℕ, zero, suc, ◌+◌, ◌-◌, ◌%◌, ◌^◌, ◌<◌, ◌≤◌, false, ◌&&◌, eqb, List, map, length, get_or, set, sym, refl, ap, ◌∙◌, subst, ap₂, ⊎_elim, le_of_suc-le-suc, not-suc-le-zero, mod-lt, eq-or-lt_of_le, arith, lit<, get_or-set_other, get_or-set_same, eq-eqb, ne_eqb, eqb-true}
 use borrow.Author.Tests.{eqb-false}
 use Rattle.std.specs.Prelude.{Some, None}
 use Rattle.rules.specs.Choice.{when◌then◌else◌}
+use Rattle.rules.specs.Tables.{blank, counter_at}
 use Rattle.rules.specs.Replies.{is_mapped_to, counted}
 use Rattle.rules.specs.declared.records.Counter.{Counter}
 use Rattle.rules.proofs.Logic.{if-true, if-false, if-both, by_cases}
-use Rattle.store.specs.Rows.{byte, hart_in, counter_of, counter_in, counters_in, Fit, Held, Alters}
-use Rattle.store.proofs.ListLaws.{table-ext, table-map}
-use Rattle.store.proofs.ByteLaws.{past, byte_past, byte-none, past-none, past_more}
-use Rattle.store.proofs.RowLaws.{fit-set, of_none, of-stopped, of-running, kinds}
+use Rattle.store.specs.Rows.{byte, hart_in, counter_of, counter_in, counters_in, Fit}
+use lib.ListN.{length-map}
+use Rattle.std.proofs.lemmas.List.{get_or-map}
+use Rattle.store.proofs.ByteLaws.{byte-none}
+use Rattle.store.proofs.RowLaws.{fit-set, counter_at_lem, counters-are, eight, of_none, of-stopped, of-running, kinds}
 
 unfoldable pub counted_one : List ℕ → ℕ → ℕ → List ℕ
 counted_one r i e =
@@ -83,7 +85,7 @@ module _ (r : List ℕ) (e : ℕ) where
 -- ----- the first n counters
 
 module _ (r : List ℕ) (e : ℕ) where
-  to-fit : (n : ℕ) → Fit r → Fit (counted_to n r e)
+  pub to-fit : (n : ℕ) → Fit r → Fit (counted_to n r e)
   unfolding counted_to
   to-fit zero k = k
   to-fit (suc n) k = one-fit (counted_to n r e) e n (to-fit n k)
@@ -109,59 +111,57 @@ module _ (r : List ℕ) (e : ℕ) where
       (λ p. one-other (counted_to n r e) e n (4 + i) (λ q. omega arith) ∙ to-value n i p m k)
       (eq-or-lt_of_le (le_of_suc-le-suc l))
 
-  pub counted-held : Fit r → Held (counted_to 8 r e) (hart_in r) (map (counted e) (counters_in r))
-  unfolding hart_in counters_in counter_in
-  counted-held k = record {
-    hart =
-        rw (
-          to-other 8 0 (λ j l q. omega arith),
-          to-other 8 1 (λ j l q. omega arith),
-          to-other 8 2 (λ j l q. omega arith),
-        );
-    own = table-ext 8 (counter_in (counted_to 8 r e)) (λ i. counted e (counter_in r i))
-        (λ i l. ap₂ counter_of (ap (λ (w : ℕ). byte w i) (to-other 8 3 (λ j p q. omega arith)))
-        (to-value 8 i l (omega (arith, k.size)) k)
-        ∙ sym (counted_of (byte (get_or r 3 0) i) e (get_or r (4 + i) 0)))
-        ∙ sym (table-map (counted e) 8 (counter_in r));
-    fit = to-fit 8 k;
-  }
+  pub hart-counted : hart_in (counted_to 8 r e) ≡ hart_in r
+  unfolding hart_in
+  hart-counted =
+      rw (
+        to-other 8 0 (λ j l q. omega arith),
+        to-other 8 1 (λ j l q. omega arith),
+        to-other 8 2 (λ j l q. omega arith),
+      )
 
--- ----- one turn of the loop: w is what is left of the control word
+  pub own-counted : Fit r → counters_in (counted_to 8 r e) ≡ map (counted e) (counters_in r)
+  unfolding counter_at counter_in counter_of
+  own-counted k =
+      sym (counters-are (counted_to 8 r e) (map (counted e) (counters_in r)) (length-map (counters_in r) (counted e)
+      ∙ eight r)
+      (λ i l. get_or-map (counted e) (counters_in r) i blank blank (rw (eight r) l)
+      ∙ ap (counted e) (counter_at_lem r i l)
+      ∙ counted_of (byte (get_or r 3 0) i) e (get_or r (4 + i) 0)
+      ∙ sym (ap₂ counter_of (ap (λ (w : ℕ). byte w i) (to-other 8 3 (λ j p q. omega arith)))
+      (to-value 8 i l (omega (arith, k.size)) k))))
 
-pub start : (r : List ℕ) (e : ℕ) → (r ≡ counted_to 0 r e) × (get_or r 3 0 ≡ past (get_or r 3 0) 0)
+-- ----- one turn of the loop, over the bytes of the control word
+
+pub start : (r : List ℕ) (e : ℕ) → r ≡ counted_to 0 r e
 unfolding counted_to
-start r e = (refl, sym (past-none (get_or r 3 0)))
+start r e = refl
 
-module _ (r : List ℕ) (i e w : ℕ) (q : w ≡ past (get_or r 3 0) i) where
-  byte-now : byte (get_or (counted_to i r e) 3 0) i ≡ w % 256
-  byte-now =
-      ap (λ (v : ℕ). byte v i) (to-other r e i 3 (λ j p z. omega arith)) ∙ byte_past (get_or r 3 0) i
-      ∙ ap (λ (n : ℕ). n % 256) (sym q)
+module _ (r : List ℕ) (i e : ℕ) where
+  byte-now : byte (get_or (counted_to i r e) 3 0) i ≡ byte (get_or r 3 0) i
+  byte-now = ap (λ (v : ℕ). byte v i) (to-other r e i 3 (λ j p z. omega arith))
 
-  pub turn-hit : w % 256 ≡ e + 23
+  pub turn-hit : byte (get_or r 3 0) i ≡ e + 23
       → counted_to (suc i) r e ≡ set (counted_to i r e) (4 + i) ((get_or (counted_to i r e) (4 + i) 0 + 1) % 2 ^ 64)
   unfolding counted_to counted_one
   turn-hit z = if-true _ _ (eq-eqb _ _ (byte-now ∙ z))
 
-  pub turn-miss : (w % 256 ≡ e + 23 → ⊥) → counted_to (suc i) r e ≡ counted_to i r e
+  pub turn-miss : (byte (get_or r 3 0) i ≡ e + 23 → ⊥) → counted_to (suc i) r e ≡ counted_to i r e
   unfolding counted_to counted_one
   turn-miss z = if-false _ _ (ne_eqb _ _ (λ y. z (sym byte-now ∙ y)))
 
-  pub turn-rest : w / 256 ≡ past (get_or r 3 0) (suc i)
-  turn-rest = ap (λ (n : ℕ). n / 256) q ∙ sym (past_more (get_or r 3 0) i)
-
 -- ----- where no counter is mapped, none counts
 
-pub none-mapped : (r : List ℕ) (e : ℕ) → Fit r → get_or r 3 0 ≡ 0 → Alters r r (map (counted e))
-unfolding counters_in counter_in
-none-mapped r e k z = record {
-  hart = refl;
-  own = sym (table-map (counted e) 8 (counter_in r) ∙ table-ext 8 (λ i. counted e (counter_in r i)) (counter_in r) unmapped);
-  fit = k;
-}
+pub none-mapped : (r : List ℕ) (e : ℕ) → get_or r 3 0 ≡ 0 → counters_in r ≡ map (counted e) (counters_in r)
+unfolding counter_at counter_in
+none-mapped r e z =
+    sym (counters-are r (map (counted e) (counters_in r)) (length-map (counters_in r) (counted e) ∙ eight r)
+    (λ i l. get_or-map (counted e) (counters_in r) i blank blank (rw (eight r) l)
+    ∙ ap (counted e) (counter_at_lem r i l)
+    ∙ unmapped i))
   where
-    unmapped : (i : ℕ) → i < 8 → counted e (counter_in r i) ≡ counter_in r i
-    unmapped i l =
+    unmapped : (i : ℕ) → counted e (counter_in r i) ≡ counter_in r i
+    unmapped i =
         let b = byte (get_or r 3 0) i in
         let v = get_or r (4 + i) 0 in
         let q : b ≡ 0 = ap (λ (w : ℕ). byte w i) z ∙ byte-none i in

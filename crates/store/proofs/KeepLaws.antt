@@ -7,7 +7,7 @@ use lib.Seq.{set-get_or}
 use Rattle.rules.specs.Names.{harts, counters, STOPPED}
 use Rattle.rules.specs.Tables.{Tables, idle, hart_at, own_at}
 use Rattle.rules.specs.Counters.{chosen}
-use Rattle.rules.specs.declared.ids.CounterId.{CounterId}
+use Rattle.rules.specs.Numbers.{CounterId}
 use Rattle.rules.specs.declared.records.Hart.{Hart}
 use Rattle.rules.specs.declared.records.Counter.{Counter}
 use Rattle.store.specs.Rows.{hart_in, counters_in}

@@ -1,21 +1,21 @@
 -- Laws of a row's sets of counters: which control bytes the mapped and the running counters have, and the match.
-use Rattle.std.proofs.Common.{◌≡◌, ℕ, zero, suc, ◌+◌, ◌-◌, ◌*◌, ◌/◌, ◌%◌, ◌^◌, ◌<◌, ◌≤◌, Bool, true, false, ◌&&◌, ◌||◌, leb, List, get_or, sym, refl, ap, ◌∙◌, ap₂, pow-suc, add-one, arith, pow_mono, le-leb}
+use Rattle.std.proofs.Common.{◌≡◌, ℕ, zero, suc, ◌+◌, ◌-◌, ◌*◌, ◌%◌, ◌^◌, ◌<◌, ◌≤◌, Bool, true, false, ◌&&◌, ◌||◌, leb, List, get_or, sym, refl, ap, ◌∙◌, ap₂, add-one, arith, pow_mono, le-leb}
 use lib.Bits.{bit_and, and_le_r}
 use borrow.Author.Tests.{lt-leb}
 use Rattle.std.specs.Prelude.{is_some}
+use Rattle.std.proofs.lemmas.Bool.{or_left}
 use Rattle.rules.specs.Choice.{when◌then◌else◌}
 use Rattle.rules.specs.Sets.{bit, those, first}
 use Rattle.rules.specs.Counters.{is_mapped, is_running, not_running, chosen}
 use Rattle.rules.specs.declared.records.Counter.{Counter}
-use Rattle.rules.proofs.Logic.{if-both, or_l}
 use Rattle.rules.proofs.Ascending.{keep-those}
 use Rattle.rules.proofs.SetLaws.{those-ext}
 use Rattle.rules.proofs.platform.BitLaws.{bit-and}
 use Rattle.store.specs.Rows.{byte, counter_of, counter_in, counters_in}
 use Rattle.store.specs.Sets.{mask_of}
-use Rattle.store.proofs.ByteLaws.{past, byte_past, past-none, past_more}
+use mir.Val.{bool_byte}
 use Rattle.store.proofs.RowLaws.{counter_at_lem, of_none, of-stopped, of-running, kinds}
-use Rattle.store.proofs.SetLaws.{mask-small, mask-bit, mask-more, mask-not}
+use Rattle.store.proofs.SetLaws.{within-is, mask-small, mask-bit, mask-more, mask-not}
 
 -- ----- control bytes
 
@@ -49,7 +49,8 @@ module _ (r : List ℕ) where
   unfolding is_mapped counter_in
   mapped-mask =
       mask-ext 8 _ _
-      (λ i l. mapped-of (byte control i) (get_or r (4 + i) 0) ∙ sym (ap (λ (c : Counter). is_some c.event) (counter_at_lem r i l)))
+      (λ i l. mapped-of (byte control i) (get_or r (4 + i) 0)
+      ∙ sym (ap (λ (c : Counter). is_some c.event) (counter_at_lem r i l)))
 
   pub running-mask : mask_of 8 (λ i. leb 23 (byte control i)) ≡ mask_of 8 (is_running (counters_in r))
   unfolding is_running counter_in
@@ -64,36 +65,32 @@ module _ (r : List ℕ) where
 
 -- ----- the loop over the bytes: the first n are looked at
 
-pub record Marked (w b n m rest place : ℕ) : Type 0 where
-  pub mask : m ≡ mask_of n (λ i. leb b (byte w i))
-  pub left : rest ≡ past w n
-  pub value : place ≡ 2 ^ n
+module _ (w b : ℕ) where
+  abbrev pub marked : ℕ → ℕ
+  marked n = mask_of n (λ i. leb b (byte w i))
 
-pub marked-none : (w b : ℕ) → Marked w b 0 0 w 1
-unfolding mask_of
-marked-none w b = record { mask = refl; left = sym (past-none w); value = refl }
+  pub marked-none : 0 ≡ marked 0
+  unfolding mask_of
+  marked-none = refl
 
-module _ (w b n m rest place : ℕ) (k : Marked w b n m rest place) where
-  pub marked-small : n < 8 → (m ≤ 255) × (place ≤ 128)
-  marked-small l =
-      let s = mask-small n (λ i. leb b (byte w i)) in
-      let q : 2 ^ n ≤ 2 ^ 7 = pow_mono (let z : n ≤ 7 = omega arith in z) in
-      (omega (arith, s, q, k.mask), omega (arith, q, k.value))
+  -- the bit of a byte, as the code shifts it
+  module _ (n v : ℕ) (t : Bool) (l : n < 8) (e : t ≡ leb b (byte w n)) (q : v ≡ bool_byte t * 2 ^ n % 2 ^ 64) where
+    marked-bit : (t : Bool) → bool_byte t * 2 ^ n % 2 ^ 64 ≡ when t then 2 ^ n else 0
+    unfolding when◌then◌else◌
+    marked-bit true =
+        let m : 2 ^ n ≤ 2 ^ 7 = pow_mono (let z : n ≤ 7 = omega arith in z) in
+        omega arith
+    marked-bit false = omega arith
 
-  pub marked-under : (x : ℕ) → x ≡ (when leb b (rest % 256) then place else 0) → x ≤ place
-  marked-under x e = rw e (if-both (λ (y : ℕ). y ≤ place) (leb b (rest % 256)) (λ q. omega arith) (λ q. omega arith))
+    pub marked_more : marked n + v ≡ marked (n + 1)
+    marked_more =
+        rw (add-one n, q, marked-bit t, e) (sym (mask-more n (λ i. leb b (byte w i))))
 
-  pub marked_more : (x : ℕ) → x ≡ (when leb b (rest % 256) then place else 0)
-      → Marked w b (n + 1) (m + x) (rest / 256) (place * 2)
-  marked_more x e =
-      let q : rest % 256 ≡ byte w n = ap (λ (y : ℕ). y % 256) k.left ∙ sym (byte_past w n) in
-      record {
-        mask = ap₂ ◌+◌ k.mask (e ∙ ap₂ (λ (y z : ℕ). when leb b y then z else 0) q k.value)
-            ∙ sym (mask-more n (λ i. leb b (byte w i)))
-            ∙ ap (λ (j : ℕ). mask_of j (λ i. leb b (byte w i))) (sym (add-one n));
-        left = ap (λ (y : ℕ). y / 256) k.left ∙ sym (past_more w n) ∙ ap (past w) (sym (add-one n));
-        value = ap (λ (y : ℕ). y * 2) k.value ∙ sym (pow-suc 2 n) ∙ ap (λ (j : ℕ). 2 ^ j) (sym (add-one n));
-      }
+    pub marked-small : marked n + v < 2 ^ 64
+    marked-small =
+        let s = mask-small (n + 1) (λ i. leb b (byte w i)) in
+        let m : 2 ^ (n + 1) ≤ 2 ^ 8 = pow_mono (let z : n + 1 ≤ 8 = omega arith in z) in
+        omega (arith, s, m, marked_more)
 
 -- ----- the match
 
@@ -104,10 +101,7 @@ module _ (flags s : ℕ) (cs : List Counter) where
 
   pub free-all : bit flags 0 ≡ true → 255 ≡ mask_of 8 free
   unfolding mask_of when◌then◌else◌
-  free-all e = mask-ext 8 (λ _. true) free (λ i l. sym (or_l (bit flags 0) (not_running cs i) e))
-
-  pub free-idle : bit flags 0 ≡ false → mask_of 8 (not_running cs) ≡ mask_of 8 free
-  free-idle e = mask-ext 8 (not_running cs) free (λ i l. rw e refl)
+  free-all e = mask-ext 8 (λ _. true) free (λ i l. sym (or_left (bit flags 0) (not_running cs i) e))
 
   pub taken-small : bit_and s (mask_of 8 free) ≤ 255
   taken-small = omega (arith, and_le_r s (mask_of 8 free), mask-small 8 free)
@@ -118,3 +112,5 @@ module _ (flags s : ℕ) (cs : List Counter) where
       ap first
       (those-ext 8 _ _ (λ i l. bit-and s (mask_of 8 free) i ∙ ap (λ (b : Bool). bit s i && b) (mask-bit 8 free i l))
       ∙ sym (keep-those free (bit s) 8))
+
+pub ruleset set_laws = (idle-mask, mask-small, within-is)

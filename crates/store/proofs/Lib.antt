@@ -1,5 +1,4 @@
 -- Laws of the words. No contract cites these files.
-pub mod ListLaws
 pub mod ByteLaws
 pub mod RowLaws
 pub mod CounterLaws

@@ -1,10 +1,11 @@
 -- The view forgets nothing: rows that hold the same tables are the same rows.
 use Rattle.std.proofs.Common.{◌≡◌, ℕ, zero, suc, ◌+◌, ◌%◌, ◌^◌, ◌<◌, eqb, List, [], get_or, sym, refl, ap, ◌∙◌, subst, mod-lt, arith, lit<, ext_get_or, le-ltb, lt-ltb}
 use Rattle.std.proofs.lemmas.Option.{same_Some, none-some}
+use Rattle.std.proofs.lemmas.Bool.{false≢true}
 use Rattle.rules.specs.Tables.{Tables, hart_at, own_at, counter_at}
 use Rattle.rules.specs.declared.records.Hart.{Hart}
 use Rattle.rules.specs.declared.records.Counter.{Counter}
-use Rattle.rules.proofs.Logic.{if-true, if-false, false-true, below_or}
+use Rattle.rules.proofs.Logic.{if-true, if-false, below_or}
 use Rattle.store.specs.Rows.{byte, state_in, hart_in, counter_of, counter_in, counters_in, Fit}
 use Rattle.store.specs.Seen.{seen, Shaped, size_of, row_of, Holds}
 use Rattle.store.proofs.ByteLaws.{past_all, bytes_one}
@@ -13,8 +14,8 @@ use Rattle.store.proofs.ViewLaws.{hart-seen, own-seen}
 
 digit-0 : (n m : ℕ) → n < 2 → m < 2 → eqb n 0 ≡ eqb m 0 → n ≡ m
 digit-0 zero zero h l e = refl
-digit-0 zero (suc zero) h l e = absurd (false-true (sym e))
-digit-0 (suc zero) zero h l e = absurd (false-true e)
+digit-0 zero (suc zero) h l e = absurd (false≢true (sym e))
+digit-0 (suc zero) zero h l e = absurd (false≢true e)
 digit-0 (suc zero) (suc zero) h l e = refl
 digit-0 (suc (suc n)) m h l e = absurd (omega arith)
 digit-0 zero (suc (suc m)) h l e = absurd (omega arith)
@@ -56,17 +57,18 @@ module _ (b v b' v' : ℕ) (e : counter_of b v ≡ counter_of b' v') where
       (λ a d. let x = sym (of-stopped b v a d) ∙ e in
       kinds b' Same (λ q'. absurd (none-some _ (sym (event (x ∙ of_none b' v' q')))))
       (λ l m. let y = x ∙ of-stopped b' v' l m in (omega (arith, same_Some _ _ (event y)), value y))
-      (λ l. absurd (false-true (running (x ∙ of-running b' v' l)))))
+      (λ l. absurd (false≢true (running (x ∙ of-running b' v' l)))))
       (λ a. let x = sym (of-running b v a) ∙ e in
       kinds b' Same (λ q'. absurd (none-some _ (sym (event (x ∙ of_none b' v' q')))))
-      (λ l m. absurd (false-true (sym (running (x ∙ of-stopped b' v' l m)))))
+      (λ l m. absurd (false≢true (sym (running (x ∙ of-stopped b' v' l m)))))
       (λ l. let y = x ∙ of-running b' v' l in (omega (arith, same_Some _ _ (event y)), value y)))
 
 module _ (a b : List ℕ) (s : Fit a) (t : Fit b) (e : hart_in a ≡ hart_in b) (f : counters_in a ≡ counters_in b) where
   pair : (k : ℕ) → k < 8 → (byte (get_or a 3 0) k ≡ byte (get_or b 3 0) k) × (get_or a (4 + k) 0 ≡ get_or b (4 + k) 0)
   unfolding counter_in
   pair k l =
-      let g : counter_in a k ≡ counter_in b k = sym (counter_at_lem a k l) ∙ ap (λ (cs : List Counter). counter_at cs k) f
+      let g : counter_in a k ≡ counter_in b k = sym (counter_at_lem a k l)
+      ∙ ap (λ (cs : List Counter). counter_at cs k) f
       ∙ counter_at_lem b k l in
       counter-one (byte (get_or a 3 0) k) (get_or a (4 + k) 0) (byte (get_or b 3 0) k) (get_or b (4 + k) 0) g
 
@@ -94,7 +96,8 @@ only_one a b s t e =
     ext_get_or 0 (get_or a h []) (get_or b h []) (x.size ∙ sym y.size)
     (λ i k. word (get_or a h []) (get_or b h []) x y
     (sym (hart-seen a (size_of a s) h m) ∙ ap (λ (z : Tables). hart_at z.harts h) e ∙ hart-seen b (size_of b t) h m)
-    (sym (own-seen a (size_of a s) h m) ∙ ap (λ (z : Tables). own_at z h) e ∙ own-seen b (size_of b t) h m) i (omega (arith, x.size))))
+    (sym (own-seen a (size_of a s) h m) ∙ ap (λ (z : Tables). own_at z h) e ∙ own-seen b (size_of b t) h m)
+    i (omega (arith, x.size))))
 
 -- rows that hold the same tables are the same rows
 pub held-once : (a b : List (List ℕ)) (s : Tables) → Holds a s → Holds b s → a ≡ b

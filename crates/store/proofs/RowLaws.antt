@@ -4,16 +4,15 @@ use borrow.Author.Tests.{eqb-false}
 use Rattle.std.specs.Prelude.{Some, None}
 use Rattle.rules.specs.Tables.{blank, counter_at}
 use Rattle.rules.specs.declared.records.Hart.{Hart}
+use Rattle.rules.specs.declared.records.Counter.{Counter}
 use Rattle.rules.proofs.Logic.{if-true, if-false, by_cases}
-use Rattle.store.specs.Rows.{byte, state_in, note_of, hart_in, counter_of, counter_in, counters_in, Fit, Held}
-use Rattle.store.proofs.ListLaws.{table-ext, table_at, table-length}
+use Rattle.store.specs.Rows.{byte, state_in, note_of, hart_in, counter_of, counter_in, counters_in, Fit}
+use Rattle.std.proofs.lemmas.List.FromFn.{length-map-range_with_len, get_or-map-range_with_len, fill_by_all}
 
 -- ----- words stay words
 
-abbrev pub Small : List ℕ → Type 0
-Small r = (i : ℕ) → get_or r i 0 < 2 ^ 64
-
-pub small-set : (r : List ℕ) (i v : ℕ) → v < 2 ^ 64 → Small r → Small (set r i v)
+small-set : (r : List ℕ) (i v : ℕ) → v < 2 ^ 64 → ((j : ℕ) → get_or r j 0 < 2 ^ 64)
+    → (j : ℕ) → get_or (set r i v) j 0 < 2 ^ 64
 small-set [] i v h s j = s j
 small-set (x ∷ r) zero v h s zero = h
 small-set (x ∷ r) zero v h s (suc j) = s (suc j)
@@ -27,11 +26,17 @@ fit-set r i v h k = record { size = length-set r i v ∙ k.size; small = small-s
 
 pub counter_at_lem : (r : List ℕ) (i : ℕ) → i < 8 → counter_at (counters_in r) i ≡ counter_in r i
 unfolding counter_at counters_in
-counter_at_lem r i l = table_at 8 (counter_in r) blank i l
+counter_at_lem r i l = get_or-map-range_with_len (counter_in r) 0 8 i i blank l (omega arith)
 
 pub eight : (r : List ℕ) → length (counters_in r) ≡ 8
 unfolding counters_in
-eight r = table-length 8 (counter_in r)
+eight r = length-map-range_with_len (counter_in r) 0 8
+
+-- eight counters that are one by one the row's are the row's
+pub counters-are : (r : List ℕ) (cs : List Counter) → length cs ≡ 8
+    → ((i : ℕ) → i < 8 → get_or cs i blank ≡ counter_in r i) → cs ≡ counters_in r
+unfolding counters_in
+counters-are r cs l h = fill_by_all (counter_in r) cs 8 blank l h
 
 -- ----- a hart record put into a row
 
@@ -44,14 +49,10 @@ unfolding state_in
 note-state true n = if-false _ _ (le-ltb (2 * (n + 1) + 0) 2 (omega arith)) ∙ omega arith
 note-state false n = if-false _ _ (le-ltb (2 * (n + 1) + 1) 2 (omega arith)) ∙ omega arith
 
-pub note-small : (b : Bool) → note_of b ≤ 1
-note-small true = omega arith
-note-small false = omega arith
-
 unfoldable pub with_hart : List ℕ → Hart → List ℕ
 with_hart r x = set (set (set r 0 (2 * (x.state + 1) + note_of x.retentive)) 1 x.address) 2 x.opaque
 
-hart-back : (r : List ℕ) (x : Hart) → length r ≡ 12 → hart_in (with_hart r x) ≡ x
+pub hart-back : (r : List ℕ) (x : Hart) → length r ≡ 12 → hart_in (with_hart r x) ≡ x
 unfolding hart_in with_hart
 hart-back [] x l = absurd (omega arith)
 hart-back (a ∷ []) x l = absurd (omega arith)
@@ -68,24 +69,13 @@ with_rest r x k c =
     let b : 1 < k = omega arith in
     rw (far, far, far)
 
-counters-with : (r : List ℕ) (x : Hart) → counters_in (with_hart r x) ≡ counters_in r
-unfolding counters_in counter_in
+pub counters-with : (r : List ℕ) (x : Hart) → counters_in (with_hart r x) ≡ counters_in r
+unfolding counter_in counter_at
 counters-with r x =
-    table-ext 8 (counter_in (with_hart r x)) (counter_in r)
-    (λ i h. ap₂ counter_of (ap (λ (w : ℕ). byte w i) (with_rest r x 3 (omega arith)))
+    counters-are r (counters_in (with_hart r x)) (eight (with_hart r x))
+    (λ i h. counter_at_lem (with_hart r x) i h
+    ∙ ap₂ counter_of (ap (λ (w : ℕ). byte w i) (with_rest r x 3 (omega arith)))
     (with_rest r x (4 + i) (omega arith)))
-
-pub hart-held : (r : List ℕ) (x : Hart) → Fit r → x.state ≤ 6 → x.address < 2 ^ 64 → x.opaque < 2 ^ 64
-    → Held (with_hart r x) x (counters_in r)
-unfolding with_hart
-hart-held r x k s a o =
-    let w = 2 * (x.state + 1) + note_of x.retentive in
-    record {
-      hart = hart-back r x k.size;
-      own = counters-with r x;
-      fit = fit-set (set (set r 0 w) 1 x.address) 2 x.opaque o
-          (fit-set (set r 0 w) 1 x.address a (fit-set r 0 w (omega (arith, note-small x.retentive)) k));
-    }
 
 -- ----- the three kinds of control byte
 
@@ -112,3 +102,5 @@ module _ (b : ℕ) where
       let n : (b ≡ 0) → ⊥ = eqb-false b 0 e in
       let l : 0 < b = omega (arith, n) in
       by_cases (ltb b 23) (λ q. g l (ltb-true b 23 q)) (λ q. h (ltb-false b 23 q)))
+
+pub ruleset kind_laws = (of_none, of-stopped, of-running)

@@ -7,8 +7,8 @@ use Rattle.rules.specs.Tables.{Tables, idle, hart_at, own_at}
 use Rattle.rules.specs.declared.records.Hart.{Hart}
 use Rattle.rules.specs.declared.records.Counter.{Counter}
 use Rattle.store.specs.Rows.{hart_in, counters_in, Fit, Held}
-use Rattle.store.specs.Seen.{seen, put_hart, put_own, Shaped, make_shaped, size_of, row_of, Holds}
-use Rattle.store.proofs.ListLaws.{map-set, get_or-map-in}
+use Rattle.store.specs.Seen.{seen, put_hart, put_own, alter_own, Shaped, make_shaped, size_of, row_of, Holds}
+use Rattle.std.proofs.lemmas.List.{map-set, get_or-map}
 
 abbrev pub tables : List Hart → List (List Counter) → Tables
 tables a b = record { harts = a; counters = b }
@@ -29,11 +29,13 @@ module _ (t : List (List ℕ)) (k : length t ≡ harts) (h : ℕ) (l : h < harts
 
   pub hart-seen : hart_at (seen t).harts h ≡ hart_in (get_or t h [])
   unfolding seen hart_at
-  hart-seen = get_or-map-in hart_in t h [] (idle STOPPED) inside
+  hart-seen = get_or-map hart_in t h [] (idle STOPPED) inside
 
   pub own-seen : own_at (seen t) h ≡ counters_in (get_or t h [])
   unfolding seen own_at
-  own-seen = get_or-map-in counters_in t h [] [] inside
+  own-seen = get_or-map counters_in t h [] [] inside
+
+pub ruleset seen_laws = (hart-seen, own-seen)
 
 module _ (t : List (List ℕ)) (k : Shaped t) (h : ℕ) (l : h < harts) where
   -- a row put anew
@@ -47,7 +49,7 @@ module _ (t : List (List ℕ)) (k : Shaped t) (h : ℕ) (l : h < harts) where
     shaped = shaped-set t h r k q.fit;
   }
 
-  pub put-hart-holds : (r : List ℕ) (x : Hart) → Held r x (counters_in (get_or t h []))
+  put-hart-holds : (r : List ℕ) (x : Hart) → Held r x (counters_in (get_or t h []))
       → Holds (set t h r) (put_hart (seen t) h x)
   unfolding own_at
   put-hart-holds r x q =
@@ -55,7 +57,7 @@ module _ (t : List (List ℕ)) (k : Shaped t) (h : ℕ) (l : h < harts) where
       (ap (set (seen t).counters h) (sym (own-seen t (size_of t k) h l)) ∙ set-get_or (seen t).counters h [])
       (row-holds r x (counters_in (get_or t h [])) q)
 
-  pub put-own-holds : (r : List ℕ) (cs : List Counter) → Held r (hart_in (get_or t h [])) cs
+  put-own-holds : (r : List ℕ) (cs : List Counter) → Held r (hart_in (get_or t h [])) cs
       → Holds (set t h r) (put_own (seen t) h cs)
   unfolding hart_at
   put-own-holds r cs q =
@@ -63,10 +65,16 @@ module _ (t : List (List ℕ)) (k : Shaped t) (h : ℕ) (l : h < harts) where
       (ap (set (seen t).harts h) (sym (hart-seen t (size_of t k) h l)) ∙ set-get_or (seen t).harts h (idle STOPPED))
       (row-holds r (hart_in (get_or t h [])) cs q)
 
-  -- the counters altered by f
-  pub alter-own-holds : (f : List Counter → List Counter) (r : List ℕ)
-      → Held r (hart_in (get_or t h [])) (f (counters_in (get_or t h [])))
-      → Holds (set t h r) (put_own (seen t) h (f (own_at (seen t) h)))
-  alter-own-holds f r q =
-      subst (λ (cs : List Counter). Holds (set t h r) (put_own (seen t) h (f cs))) (sym (own-seen t (size_of t k) h l))
-      (put-own-holds r (f (counters_in (get_or t h []))) q)
+  -- the row at hart h's place, its record altered by f
+  pub hart-altered : (i : ℕ) → i ≡ h → (f : Hart → Hart) (r : List ℕ)
+      → Held r (f (hart_in (get_or t i []))) (counters_in (get_or t i []))
+      → Holds (set t i r) (put_hart (seen t) h (f (hart_at (seen t).harts h)))
+  hart-altered i e f r q =
+      rw (e, hart-seen t (size_of t k) h l) (put-hart-holds r (f (hart_in (get_or t h []))) (rw e at q))
+
+  -- its counters
+  pub own-altered : (i : ℕ) → i ≡ h → (f : List Counter → List Counter) (r : List ℕ)
+      → Held r (hart_in (get_or t i [])) (f (counters_in (get_or t i [])))
+      → Holds (set t i r) (alter_own (seen t) h f)
+  own-altered i e f r q =
+      rw (e, own-seen t (size_of t k) h l) (put-own-holds r (f (counters_in (get_or t h []))) (rw e at q))

@@ -9,8 +9,9 @@
 --   Held r x cs             the row r holds the record x and the counters cs
 --   Alters r r' f           the row r' is r with its counters altered by f
 use Rattle.std.specs.Prelude.{◌≡◌, ℕ, zero, suc, ◌+◌, ◌-◌, ◌*◌, ◌/◌, ◌%◌, ◌^◌, ◌<◌, Bool, true}
-use Rattle.std.specs.Prelude.{false, List, [], ◌∷◌, ◌++◌, length, ◌==◌, nat_lt, slice_index}
+use Rattle.std.specs.Prelude.{false, List, map, length, ◌==◌, nat_lt, slice_index}
 use Rattle.std.specs.Prelude.{Option, Some, None}
+use Rattle.std.specs.List.{range_with_len}
 use Rattle.rules.specs.Choice.{when◌then◌else◌}
 use Rattle.rules.specs.Names.{counters}
 use Rattle.rules.specs.declared.records.Hart.{Hart}
@@ -97,13 +98,8 @@ control_of c = control_for c.event c.running
 unfoldable pub counter_in : List ℕ → ℕ → Counter
 counter_in r i = counter_of (byte (slice_index r control_at) i) (slice_index r (values_at + i))
 
--- f at each number below n
-unfoldable pub table : {A : Type 0} → ℕ → (ℕ → A) → List A
-table zero f = []
-table (suc n) f = table n f ++ (f n ∷ [])
-
 unfoldable pub counters_in : List ℕ → List Counter
-counters_in r = table counters (counter_in r)
+counters_in r = map (counter_in r) (range_with_len 0 counters)
 
 -- ----- a row
 

@@ -8,7 +8,7 @@
 --   fresh_rows boot     the rows of fresh tables; `FreshOr`: what making them leaves
 --   fresh_made p        what making them answers
 use Rattle.std.specs.Prelude.{◌≡◌, ℕ, ◌-◌, ◌<◌, Bool, true, false, List, [], ◌∷◌, map, length}
-use Rattle.std.specs.Prelude.{replicate, ◌==◌, slice_index_or, slice_set, Result, Ok, Err}
+use Rattle.std.specs.Prelude.{replicate, slice_index_or, slice_set, Result, Ok, Err}
 use Rattle.rules.specs.Choice.{when◌then◌else◌}
 use Rattle.rules.specs.Names.{harts, STARTED, STOPPED}
 use Rattle.rules.specs.Platform.{platform_accepted}
@@ -19,7 +19,7 @@ use Rattle.rules.specs.declared.records.Hart.{Hart}
 use Rattle.rules.specs.declared.records.Counter.{Counter}
 use Rattle.rules.specs.declared.answers.Refusal.{Refusal}
 use Rattle.rules.specs.declared.answers.Refusal.TheVariants.{NotWellFormed}
-use Rattle.store.specs.Rows.{words, state_word, hart_in, table, counters_in, Fit}
+use Rattle.store.specs.Rows.{words, state_word, hart_in, counters_in, Fit}
 
 unfoldable pub seen : List (List ℕ) → Tables
 seen t = record { harts = map hart_in t; counters = map counters_in t }
@@ -41,8 +41,8 @@ pub record Shaped (t : List (List ℕ)) : Type 0 where
   size : length t ≡ harts
   rows : (h : ℕ) → h < harts → Fit (slice_index_or t h [])
 
-pub make_shaped : (t : List (List ℕ)) → length t ≡ harts → ((h : ℕ) → h < harts → Fit (slice_index_or t h []))
-    → Shaped t
+pub make_shaped : (t : List (List ℕ)) → length t ≡ harts
+    → ((h : ℕ) → h < harts → Fit (slice_index_or t h [])) → Shaped t
 make_shaped t e f = record { size = e; rows = f }
 
 pub size_of : (t : List (List ℕ)) → Shaped t → length t ≡ harts
@@ -57,12 +57,13 @@ pub record Holds (t : List (List ℕ)) (s : Tables) : Type 0 where
 
 -- ----- fresh tables
 
--- the row of the boot hart, or of another
-abbrev pub fresh_row : Bool → List ℕ
-fresh_row boot = (when boot then state_word STARTED else state_word STOPPED) ∷ replicate (words - 1) 0
+-- the row of a hart in a state, all else 0
+abbrev pub fresh_row : (state : ℕ) → List ℕ
+fresh_row s = state_word s ∷ replicate (words - 1) 0
 
+-- the boot hart's row is STARTED, every other STOPPED
 abbrev pub fresh_rows : (boot : ℕ) → List (List ℕ)
-fresh_rows boot = table harts (λ h. fresh_row (h == boot))
+fresh_rows boot = slice_set (replicate harts (fresh_row STOPPED)) boot (fresh_row STARTED)
 
 -- what making fresh tables answers: "platform .. not well formed" is H1
 abbrev pub fresh_made : Platform → Result Unit Refusal

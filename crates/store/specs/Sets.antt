@@ -4,14 +4,18 @@
 --   set_of s         the counters that the low eight bits of a word name
 --   Startable cs s   each of the counters cs is well formed, and those of the set s are mapped
 --   configure_at     counter i configured
---   at_one, Kept     a change of one counter of a set; that it keeps the set's well formed
-use Rattle.std.specs.Prelude.{◌≡◌, ℕ, zero, suc, ◌+◌, ◌*◌, ◌<◌, Bool, true, List, slice_set}
+--   Kept f s cs      f keeps each counter of the set s well formed; `MayChange R`: so does all that
+--                    R allows
+--   Changed R s n    the row after a change, by R, of those of the set s among its first n counters
+use Rattle.std.specs.Prelude.{◌≡◌, ℕ, zero, suc, ◌+◌, ◌*◌, ◌<◌, ◌≤◌, Bool, true, false, List}
+use Rattle.std.specs.Prelude.{slice_set}
 use Rattle.rules.specs.Choice.{when◌then◌else◌}
 use Rattle.rules.specs.Names.{counters}
 use Rattle.rules.specs.Sets.{bit, those, all}
 use Rattle.rules.specs.Tables.{counter_at, CounterFine}
 use Rattle.rules.specs.Counters.{is_mapped, configured}
 use Rattle.rules.specs.declared.records.Counter.{Counter}
+use Rattle.store.specs.Rows.{hart_in, counters_in, Fit}
 
 unfoldable pub mask_of : ℕ → (ℕ → Bool) → ℕ
 mask_of zero f = 0
@@ -32,13 +36,23 @@ pub record Startable (cs : List Counter) (s : ℕ) : Type 0 where
 abbrev pub configure_at : (flags code i : ℕ) → List Counter → List Counter
 configure_at flags e i cs = slice_set cs i (configured flags e (counter_at cs i))
 
--- f at counter i, if the set s has it
-abbrev pub at_one : (Counter → Counter) → (s i : ℕ) → List Counter → List Counter
-at_one f s i cs = when bit s i then slice_set cs i (f (counter_at cs i)) else cs
-
--- f keeps counter i well formed, if the set s has it; it keeps each
-abbrev pub KeptAt : (Counter → Counter) → (s i : ℕ) → List Counter → Type 0
-KeptAt f s i cs = bit s i ≡ true → CounterFine (f (counter_at cs i))
-
+-- f keeps each counter of the set s well formed
 abbrev pub Kept : (Counter → Counter) → (s : ℕ) → List Counter → Type 0
-Kept f s cs = (i : ℕ) → i < counters → KeptAt f s i cs
+Kept f s cs = (i : ℕ) → i < counters → bit s i ≡ true → CounterFine (f (counter_at cs i))
+
+-- what R makes of a counter of the set s is well formed
+abbrev pub MayChange : (Counter → Counter → Type 0) → (s : ℕ) → List Counter → Type 0
+MayChange R s cs = (i : ℕ) → i < counters → bit s i ≡ true → (x : Counter)
+    → R (counter_at cs i) x → CounterFine x
+
+-- of the first n counters of the row r, those of the set s are in r' what R makes of them; all
+-- else is as it was
+pub record Changed (R : Counter → Counter → Type 0) (s n : ℕ) (r r' : List ℕ) : Type 0 where
+  pub hart : hart_in r' ≡ hart_in r
+  pub made : (i : ℕ) → i < n → bit s i ≡ true
+      → R (counter_at (counters_in r) i) (counter_at (counters_in r') i)
+  pub left : (i : ℕ) → i < n → bit s i ≡ false
+      → counter_at (counters_in r') i ≡ counter_at (counters_in r) i
+  pub ahead : (i : ℕ) → n ≤ i → i < counters
+      → counter_at (counters_in r') i ≡ counter_at (counters_in r) i
+  pub fit : Fit r'

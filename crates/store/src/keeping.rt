@@ -1,4 +1,10 @@
-// What the crate above is given: each function on the rows of all harts, said through the view.
+// What the crate above is given: each function on the rows of all harts, said through the view. One
+// that writes asks that the rows are Shaped and leaves them so, for the other rows' sake: a row's
+// type tells that its words are words only where the code reads or writes that row. A struct that
+// lends the rows and has this as its invariant is no plainer: each of the six would promise instead
+// that the struct still holds the caller's reference.
+#![tactic(auto, using(crate::proofs::ViewLaws::seen_laws))]
+
 ghost use Rattle.std.specs.Prelude.{◌≡◌, ◌≤◌};
 ghost use Rattle.std.specs.Option.{option_map};
 ghost use Rattle.rules.specs.Names.{RESUME_PENDING};
@@ -27,7 +33,7 @@ pub fn get_hart(t: &Rows, h: HartId) -> Hart
     unpack(&t[h.index()])
 }
 
-// Puts hart h's record.
+// Puts hart h's record. Its state is asked, since a `Hart` may hold any number for one.
 pub fn put_hart(t: &mut Rows, h: HartId, x: Hart)
     requires { (x.state ≤ RESUME_PENDING) × Shaped t.old }
     ensures { Holds t.new (put_hart (seen t.old) h.number x) }

@@ -3,7 +3,6 @@
 #![tactic(auto)]
 
 pub mod rows; // the rows and the places in a row
-pub mod choice; // tests joined, and one of two numbers
 pub mod records; // a hart's record in its row
 pub mod settling; // a completion behind a reference
 pub mod counters; // the eight counters of a row

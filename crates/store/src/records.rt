@@ -1,12 +1,13 @@
 // A hart's record in its row.
 ghost use Rattle.std.specs.Prelude.{◌≡◌, ◌≤◌};
 ghost use Rattle.rules.specs.Names.{RESUME_PENDING};
-ghost use Rattle.store.specs.Rows.{Fit, Held, state_in, note_of, hart_in, counters_in};
+ghost use Rattle.store.specs.Rows.{Held, state_in, hart_in, counters_in};
 
 use crate::rows::{ADDRESS, OPAQUE, Row, STATE};
 use rules::records::Hart;
 
-// The state in a row's first word; a cleared word holds none.
+// The state in a row's first word. A cleared word gives the number of no state, not None: a record
+// has a state (`hart_in`), and rows that are seen alike are the same rows (`only_one`).
 fn state_in(w: u64) -> u64
     ensures { result ≡ state_in w }
 {
@@ -17,6 +18,7 @@ fn state_in(w: u64) -> u64
 }
 
 // A row's hart record.
+#[tactic(auto, unfolding(crate::specs::Rows::hart_in))]
 pub fn unpack(r: &Row) -> Hart
     ensures { result ≡ hart_in r.now }
 {
@@ -28,18 +30,12 @@ pub fn unpack(r: &Row) -> Hart
     }
 }
 
-fn note(retentive: bool) -> u64
-    ensures { result ≡ note_of retentive }
-{
-    if retentive { 0 } else { 1 }
-}
-
 // Puts a hart record into a row.
 pub fn pack(r: &mut Row, x: Hart)
-    requires { Fit r.old × (x.state ≤ RESUME_PENDING) }
+    requires { x.state ≤ RESUME_PENDING }
     ensures { Held r.new x (counters_in r.old) }
 {
-    r[STATE] = 2 * (x.state + 1) + note(x.retentive);
+    r[STATE] = 2 * (x.state + 1) + u64::from(!x.retentive);
     r[ADDRESS] = x.address;
     r[OPAQUE] = x.opaque;
 }

@@ -1,23 +1,28 @@
 // The rows and the places in a row.
+use rules::numbers;
 
 // The number of harts.
-pub const HARTS: usize = 128;
+pub const HARTS: usize = numbers::HARTS as usize;
 
 // Half of them: as many as a word has bits.
-pub const HALF: usize = 64;
+pub const HALF: usize = HARTS / 2;
 
 // The number of counters of a hart.
-pub const COUNTERS: usize = 8;
+pub const COUNTERS: usize = numbers::COUNTERS as usize;
 
-// The number of words in a row, and of those past the first.
-pub const WORDS: usize = 12;
-
-pub const REST: usize = 11;
+// The number of words in a row.
+pub const WORDS: usize = VALUES + COUNTERS;
 
 // Word 0: 2 * (state + 1), and 1 more if the sleep is not retentive, so that cleared memory holds
-// no state. Then the sleep note's address and opaque.
+// no state.
 pub const STATE: usize = 0;
 
+// Those of a STARTED and of a STOPPED hart with a retentive sleep note.
+pub const STARTED_WORD: u64 = 2 * (numbers::STARTED + 1);
+
+pub const STOPPED_WORD: u64 = 2 * (numbers::STOPPED + 1);
+
+// Then the sleep note's address and opaque.
 pub const ADDRESS: usize = 1;
 
 pub const OPAQUE: usize = 2;
@@ -26,9 +31,9 @@ pub const OPAQUE: usize = 2;
 // RUNNING_CODE + code if it runs.
 pub const CONTROL: usize = 3;
 
-pub const STOPPED_CODE: u64 = 1;
+pub const STOPPED_CODE: u8 = 1;
 
-pub const RUNNING_CODE: u64 = 23;
+pub const RUNNING_CODE: u8 = 23;
 
 // Then the values of the eight counters.
 pub const VALUES: usize = 4;
@@ -36,4 +41,4 @@ pub const VALUES: usize = 4;
 // The rows of all harts.
 pub type Row = [u64; WORDS];
 
-pub type Rows = [[u64; WORDS]; HARTS];
+pub type Rows = [Row; HARTS];

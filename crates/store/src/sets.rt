@@ -1,14 +1,15 @@
 // Sets of a row's counters as words of bits: the tests, the match, start and stop.
+#![tactic(auto, using(crate::proofs::KindLaws::set_laws))]
+
 ghost use Rattle.std.specs.Prelude.{◌≡◌, ◌<◌, ◌≤◌, ◌==◌, ◌||◌, bit_and, nat_le};
 ghost use Rattle.std.specs.Option.{option_map};
 ghost use Rattle.rules.specs.Names.{counters};
 ghost use Rattle.rules.specs.Sets.{bit, all, first};
 ghost use Rattle.rules.specs.Counters.{is_mapped, is_running, not_running, chosen, each, begun};
 ghost use Rattle.rules.specs.Counters.{ended};
-ghost use Rattle.store.specs.Rows.{byte, counters_in, Fit, Alters};
-ghost use Rattle.store.specs.Sets.{mask_of, set_of, at_one, KeptAt, Kept};
+ghost use Rattle.store.specs.Rows.{byte, counters_in, Alters};
+ghost use Rattle.store.specs.Sets.{mask_of, set_of, Kept, MayChange, Changed};
 
-use crate::choice::choose;
 use crate::counters::{read_counter, write_counter};
 use crate::rows::{CONTROL, COUNTERS, RUNNING_CODE, Row, STOPPED_CODE};
 use rules::ids::CounterId;
@@ -19,16 +20,12 @@ use rules::records::Counter;
 const ALL: u64 = 255;
 
 // The counters whose control byte is b or more.
-fn at_least(w: u64, b: u64) -> u64
+fn at_least(w: u64, b: u8) -> u64
     ensures { result ≡ mask_of counters (λ i. nat_le b (byte w i)) }
 {
     let mut m = 0;
-    let mut rest = w;
-    let mut place = 1;
-    for i in 0..COUNTERS {
-        m = m + choose(b <= rest % 256, place, 0);
-        rest = rest / 256;
-        place = place * 2;
+    for (i, control) in w.to_le_bytes().iter().enumerate() {
+        m += u64::from(*control >= b) << i;
     }
     m
 }
@@ -62,6 +59,8 @@ fn within(s: u64, m: u64) -> bool
     low & m == low
 }
 
+// Three tests of a set, each against its own word: what they share is `within`.
+
 // Whether each counter of the set is mapped.
 pub fn row_all_mapped(r: &Row, s: u64) -> bool
     ensures { result ≡ all (is_mapped (counters_in r.now)) (set_of s) }
@@ -92,7 +91,7 @@ fn lowest(s: u64) -> Option<CounterId>
         return None;
     }
     Some(CounterId {
-        number: s.trailing_zeros() as u64,
+        number: u64::from(s.trailing_zeros()),
     })
 }
 
@@ -119,7 +118,7 @@ fn begun(c: Counter, flags: u64, initial: u64) -> Counter
 {
     Counter {
         running: true,
-        value: choose(bit_of(flags, 0), initial, c.value),
+        value: if bit_of(flags, 0) { initial } else { c.value },
         ..c
     }
 }
@@ -135,44 +134,33 @@ fn ended(c: Counter, flags: u64) -> Counter
     }
 }
 
-// Starts counter i if the set has it.
-fn start_one(r: &mut Row, i: usize, s: u64, flags: u64, initial: u64)
-    requires { Fit r.old
-        × ((i < counters) × KeptAt (begun flags initial) s i (counters_in r.old)) }
-    ensures { Alters r.old r.new (at_one (begun flags initial) s i) }
+// Changes each counter of the set. By number, since a counter lies in two places of the row: its
+// control byte in one word, its value in another.
+fn change_row<F: Fn(Counter) -> Counter>(r: &mut Row, s: u64, change: F)
+    requires callable { F.IsAlwaysCallable change }
+    requires fine { MayChange (F.post change) s (counters_in r.old) }
+    ensures { Changed (F.post change) s counters r.old r.new }
 {
-    if bit_of(s, i as u64) {
-        write_counter(r, i, begun(read_counter(r, i), flags, initial));
-    }
-}
-
-// Stops counter i if the set has it.
-fn stop_one(r: &mut Row, i: usize, s: u64, flags: u64)
-    requires { Fit r.old × ((i < counters) × KeptAt (ended flags) s i (counters_in r.old)) }
-    ensures { Alters r.old r.new (at_one (ended flags) s i) }
-{
-    if bit_of(s, i as u64) {
-        write_counter(r, i, ended(read_counter(r, i), flags));
+    for i in 0..COUNTERS {
+        if bit_of(s, i as u64) {
+            write_counter(r, i, change(read_counter(r, i)));
+        }
     }
 }
 
 // Starts each counter of the set.
 pub fn start_row(r: &mut Row, s: u64, flags: u64, initial: u64)
-    requires { Fit r.old × Kept (begun flags initial) s (counters_in r.old) }
+    requires { Kept (begun flags initial) s (counters_in r.old) }
     ensures { Alters r.old r.new
         (each (begun flags initial) (set_of s)) }
 {
-    for i in 0..COUNTERS {
-        start_one(r, i, s, flags, initial);
-    }
+    change_row(r, s, |c| begun(c, flags, initial));
 }
 
 // Stops each counter of the set.
 pub fn stop_row(r: &mut Row, s: u64, flags: u64)
-    requires { Fit r.old × Kept (ended flags) s (counters_in r.old) }
+    requires { Kept (ended flags) s (counters_in r.old) }
     ensures { Alters r.old r.new (each (ended flags) (set_of s)) }
 {
-    for i in 0..COUNTERS {
-        stop_one(r, i, s, flags);
-    }
+    change_row(r, s, |c| ended(c, flags));
 }

@@ -1,25 +1,23 @@
 // The test of whole tables, on their words. It has no early exit, so that it also tells the shape
-// of every row.
-ghost use Rattle.std.specs.Prelude.{◌≡◌, ℕ, ◌+◌, ◌-◌, ◌^◌, ◌<◌, ◌≤◌, length, nat_eq, nat_le};
+// of every row: tests are joined by &, which asks both sides, and folded over each word and row.
+#![tactic(auto, using(crate::proofs::WholeLaws::whole_laws))]
+
+ghost use Rattle.std.specs.Prelude.{◌≡◌, ◌+◌, ◌-◌, length, nat_eq, nat_le};
 ghost use Rattle.std.specs.Prelude.{slice_index};
-ghost use Rattle.rules.specs.Names.{harts, counters};
+ghost use Rattle.rules.specs.Names.{counters};
 ghost use Rattle.rules.specs.Sets.{every};
 ghost use Rattle.rules.specs.Tables.{tables_well_formed};
 ghost use Rattle.store.specs.Rows.{words, byte, last_control, Fit};
 ghost use Rattle.store.specs.Tests.{row_well_formed, Half};
 ghost use Rattle.store.specs.Seen.{seen, Shaped};
 
-use crate::choice::both;
-use crate::rows::{CONTROL, HALF, REST, Row, Rows, STATE};
+use crate::rows::{CONTROL, HALF, Row, Rows, STATE, STOPPED_WORD};
 use rules::platform::{Platform, bit_of};
 
-// The first words of the lowest and of the highest state, and of a STOPPED hart with a retentive
-// sleep note.
+// The first words of the lowest and of the highest state.
 const FIRST_STATE: u64 = 2;
 
 const LAST_STATE: u64 = 15;
-
-const IDLE_STATE: u64 = 4;
 
 // Eight bytes: all but the top bit of each, the top bits, and what carries a byte over last_control
 // to its top bit.
@@ -38,64 +36,35 @@ fn controls(w: u64) -> bool
 }
 
 // Whether each word but the first is 0.
-fn cleared(r: &[u64]) -> bool
-    requires { length r.now ≡ words }
+fn cleared(r: &Row) -> bool
     ensures { result ≡ every (words - 1) (λ i. nat_eq (slice_index r.now (1 + i)) 0) }
 {
-    let mut x = 0;
-    for i in 0..REST {
-        x = x | r[1 + i];
-    }
-    x == 0
-}
-
-// That each word is below 2^64.
-fn small(r: &[u64]) -> bool
-    requires { length r.now ≡ words }
-    ensures { (i : ℕ) → slice_index r.now i < 2 ^ 64 }
-{
-    r[0] == 0
+    r[1..].iter().fold(0, |all, w| all | w) == 0
 }
 
 // Whether the row of a hart is well formed, enabled or not.
 fn row_well_formed(r: &Row, enabled: bool) -> bool
-    ensures { (result ≡ row_well_formed enabled r.now) × Fit r.now }
+    ensures test { result ≡ row_well_formed enabled r.now }
+    ensures shape { Fit r.now }
 {
-    small(r);
     let w = r[STATE];
     if enabled {
-        return both(
-            both(FIRST_STATE <= w, w <= LAST_STATE),
-            controls(r[CONTROL]),
-        );
+        return (FIRST_STATE..=LAST_STATE).contains(&w) & controls(r[CONTROL]);
     }
-    both(w == IDLE_STATE, cleared(r))
+    (w == STOPPED_WORD) & cleared(r)
 }
 
-// Whether the 64 rows from a place on are well formed, with the bits that say which harts of them
-// are enabled.
-fn half_well_formed(enabled: u64, t: &[Row], from: usize) -> bool
-    requires { (length t.now ≡ harts) × (from ≤ 64) }
-    ensures { Half enabled t.now from 64 result }
+// Whether the 64 rows of a half are well formed, with the bits that say which of their harts are
+// enabled.
+fn half_well_formed(enabled: u64, half: &[Row]) -> bool
+    requires { length half.now ≡ 64 }
+    ensures { Half enabled half.now 64 result }
 {
     let mut fine = true;
-    for i in 0..HALF {
-        let on = bit_of(enabled, i as u64);
-        fine = both(fine, row_well_formed(&t[from + i], on));
+    for (i, row) in half.iter().enumerate() {
+        fine &= row_well_formed(row, bit_of(enabled, i as u64));
     }
     fine
-}
-
-fn all_well_formed(p: &Platform, t: &[Row]) -> bool
-    requires { length t.now ≡ harts }
-    ensures answer { result ≡ tables_well_formed p.now (seen t.now) }
-    ensures shape { Shaped t.now }
-{
-    let set = p.enabled;
-    both(
-        half_well_formed(set.low, t, 0),
-        half_well_formed(set.high, t, HALF),
-    )
 }
 
 // Whether the tables are well formed on the platform. It also tells the shape of the rows.
@@ -103,5 +72,6 @@ pub fn well_formed(p: &Platform, t: &Rows) -> bool
     ensures answer { result ≡ tables_well_formed p.now (seen t.now) }
     ensures shape { Shaped t.now }
 {
-    all_well_formed(p, t)
+    let (low, high) = t.split_at(HALF);
+    half_well_formed(p.enabled.low, low) & half_well_formed(p.enabled.high, high)
 }

@@ -111,7 +111,7 @@ impl<P: Print> Transcript<P> {
         blocks::read(bytes, 0, &mut block);
         // "A wrong block prints `H8` and adds no record."
         if !blocks::check(&block) {
-            return writeln!(self.lines, "H8");
+            return writeln!(self.lines, "H{}", Refusal::BlockCheck.number());
         }
         for record in blocks::records(&block) {
             self.record(record)?;

@@ -1,84 +1,52 @@
--- Laws of a word's bits: of the word halved, of and and or, that the bits are the word, and when one word has each bit
+-- Laws of a word's bits: of the word halved, of and, that the bits are the word, and when one word has each bit
 -- of another.
-use mathlib.Core.Path.{◌≡◌, refl, sym, ap, ◌∙◌, subst}
+use mathlib.Core.Path.{◌≡◌, refl, sym, ap, ◌∙◌}
 use mathlib.Core.Bool.{Bool, true, false, not, ◌&&◌, ◌||◌}
-use Prim.Native.Nat.{ℕ, zero, suc, ◌*◌, ◌/◌, ◌%◌, ◌^◌, ◌<◌}
-use native.Mathlib.Nat.{mod-lt, div-one, div-div-eq-div-mul, pow-suc, pow-succ'}
+use Prim.Native.Nat.{ℕ, suc, min, ◌/◌, ◌%◌, ◌^◌, ◌<◌}
+use native.Mathlib.Nat.{mod-lt}
 use native.Mathlib.Omega.{arith}
-use lib.Bits.{bit_and, bit_or, and_shr, or_shr, and_mod, or_mod, and_le_l}
+use lib.Bits.{bit_and, and_le_l}
 use lib.Dec.{eqb, lit<}
 use borrow.Author.Tests.{eqb-true, eq-eqb}
+use Rattle.std.specs.Cmp.{second_so, both_ways}
+use Rattle.std.specs.Int.{bit_at}
+use Rattle.std.proofs.lemmas.Bool.Decides.{nat_tests}
+use Rattle.std.proofs.lemmas.Nat.Bits.{bit_at_lowest, bit_at-suc, bit_at_and, same_from_bits_below}
 use Rattle.rules.specs.Sets.{bit, every}
-use Rattle.rules.proofs.Logic.{false-true, same_test, and_r, not-or, not-or-inv}
+use Rattle.rules.proofs.Logic.{not-or, not-or-inv}
 use Rattle.rules.proofs.SetLaws.{every-at, every_of}
 
 -- ----- the word halved
 
 pub bit-first : (m : ℕ) → bit m 0 ≡ eqb (m % 2) 1
 unfolding bit
-bit-first m = ap (λ (x : ℕ). eqb (x % 2) 1) (div-one m)
+bit-first m = ap (λ (x : ℕ). eqb x 1) (bit_at_lowest m)
 
 pub bit-next : (m i : ℕ) → bit m (suc i) ≡ bit (m / 2) i
 unfolding bit
-bit-next m i =
-    ap (λ (x : ℕ). eqb (m / x % 2) 1) (pow-succ' 2 i)
-    ∙ ap (λ (x : ℕ). eqb (x % 2) 1) (sym (div-div-eq-div-mul m 2 (2 ^ i)))
+bit-next m i = ap (λ (x : ℕ). eqb x 1) (bit_at-suc m i)
 
-half : (n m : ℕ) → m < 2 ^ suc n → m / 2 < 2 ^ n
-half n m h = let l : m < 2 ^ n * 2 = subst (λ (x : ℕ). m < x) (pow-suc 2 n) h in omega arith
+-- ----- the bits are the word
 
 same-digit : (a b : ℕ) → a < 2 → b < 2 → eqb a 1 ≡ eqb b 1 → a ≡ b
-same-digit zero zero h l e = refl
-same-digit zero (suc zero) h l e = absurd (false-true e)
-same-digit (suc zero) zero h l e = absurd (false-true (sym e))
-same-digit (suc zero) (suc zero) h l e = refl
-same-digit (suc (suc a)) b h l e = absurd (omega arith)
-same-digit zero (suc (suc b)) h l e = absurd (omega arith)
-same-digit (suc zero) (suc (suc b)) h l e = absurd (omega arith)
+same-digit a b h l e = grind (arith, nat_tests)
 
--- the bits are the word
 pub bits-one : (n a b : ℕ) → a < 2 ^ n → b < 2 ^ n → ((i : ℕ) → i < n → bit a i ≡ bit b i) → a ≡ b
-bits-one zero a b h l e = omega arith
-bits-one (suc n) a b h l e =
-    let q = bits-one n (a / 2) (b / 2) (half n a h) (half n b l) (λ i m. sym (bit-next a i) ∙ e (suc i) (omega arith)
-    ∙ bit-next b i) in
-    let d = same-digit (a % 2) (b % 2) (mod-lt a (lit< tt)) (mod-lt b (lit< tt)) (sym (bit-first a) ∙ e 0 (omega arith)
-    ∙ bit-first b) in
-    omega arith
+unfolding bit
+bits-one n a b h l e =
+    same_from_bits_below n a b h l
+    (λ i m. same-digit (bit_at a i) (bit_at b i) (mod-lt _ (lit< tt)) (mod-lt _ (lit< tt)) (e i m))
 
--- ----- and, or
+-- ----- and
 
-and-digit : (a b : ℕ) → a < 2 → b < 2 → eqb (bit_and a b) 1 ≡ (eqb a 1 && eqb b 1)
-and-digit zero zero h l = refl
-and-digit zero (suc zero) h l = refl
-and-digit (suc zero) zero h l = refl
-and-digit (suc zero) (suc zero) h l = refl
-and-digit (suc (suc a)) b h l = absurd (omega arith)
-and-digit zero (suc (suc b)) h l = absurd (omega arith)
-and-digit (suc zero) (suc (suc b)) h l = absurd (omega arith)
-
-or-digit : (a b : ℕ) → a < 2 → b < 2 → eqb (bit_or a b) 1 ≡ (eqb a 1 || eqb b 1)
-or-digit zero zero h l = refl
-or-digit zero (suc zero) h l = refl
-or-digit (suc zero) zero h l = refl
-or-digit (suc zero) (suc zero) h l = refl
-or-digit (suc (suc a)) b h l = absurd (omega arith)
-or-digit zero (suc (suc b)) h l = absurd (omega arith)
-or-digit (suc zero) (suc (suc b)) h l = absurd (omega arith)
+and-digit : (a b : ℕ) → a < 2 → b < 2 → eqb (min a b) 1 ≡ (eqb a 1 && eqb b 1)
+and-digit a b h l = grind (arith, nat_tests)
 
 pub bit-and : (a b i : ℕ) → bit (bit_and a b) i ≡ (bit a i && bit b i)
 unfolding bit
 bit-and a b i =
-    ap (λ (x : ℕ). eqb (x % 2) 1) (and_shr a b i)
-    ∙ ap (λ (x : ℕ). eqb x 1) (and_mod (a / 2 ^ i) (b / 2 ^ i) 1)
-    ∙ and-digit (a / 2 ^ i % 2) (b / 2 ^ i % 2) (mod-lt (a / 2 ^ i) (lit< tt)) (mod-lt (b / 2 ^ i) (lit< tt))
-
-pub bit-or : (a b i : ℕ) → bit (bit_or a b) i ≡ (bit a i || bit b i)
-unfolding bit
-bit-or a b i =
-    ap (λ (x : ℕ). eqb (x % 2) 1) (or_shr a b i)
-    ∙ ap (λ (x : ℕ). eqb x 1) (or_mod (a / 2 ^ i) (b / 2 ^ i) 1)
-    ∙ or-digit (a / 2 ^ i % 2) (b / 2 ^ i % 2) (mod-lt (a / 2 ^ i) (lit< tt)) (mod-lt (b / 2 ^ i) (lit< tt))
+    ap (λ (x : ℕ). eqb x 1) (bit_at_and a b i)
+    ∙ and-digit (bit_at a i) (bit_at b i) (mod-lt _ (lit< tt)) (mod-lt _ (lit< tt))
 
 -- ----- each bit of a is one of b
 
@@ -88,12 +56,12 @@ and_same false b f = refl
 
 pub subset-word : (n a b : ℕ) → a < 2 ^ n → eqb (bit_and a b) a ≡ every n (λ i. not (bit a i) || bit b i)
 subset-word n a b l =
-    same_test (eqb (bit_and a b) a) (every n (λ i. not (bit a i) || bit b i))
+    both_ways (eqb (bit_and a b) a) (every n (λ i. not (bit a i) || bit b i))
     (λ e.
     let z = eqb-true (bit_and a b) a e in
     every_of (λ i. not (bit a i) || bit b i) n
     (λ i m. not-or (bit a i) (bit b i)
-    (λ q. and_r (bit a i) (bit b i) (sym (bit-and a b i) ∙ ap (λ (x : ℕ). bit x i) z ∙ q))))
+    (λ q. second_so (bit a i) (bit b i) (sym (bit-and a b i) ∙ ap (λ (x : ℕ). bit x i) z ∙ q))))
     (λ e.
     eq-eqb (bit_and a b) a
     (bits-one n (bit_and a b) a (omega (arith, and_le_l a b)) l

@@ -35,13 +35,13 @@ every-from (suc n) (suc k) f e =
 pub every-halves : (f : ℕ → Bool) → every harts f ≡ (every 64 f && every 64 (λ i. f (64 + i)))
 every-halves f = every-from 64 harts f (omega arith)
 
-module _ (s r : HartSet) (l : s.low < 2 ^ 64) (m : s.high < 2 ^ 64) where
-  pub subset-words : (eqb (bit_and s.low r.low) s.low && eqb (bit_and s.high r.high) s.high)
-      ≡ every harts (λ h. not (has s h) || has r h)
-  subset-words =
-      ap₂ ◌&&◌
-      (subset-word 64 s.low r.low l
-      ∙ sym (every-ext _ _ 64 (λ i k. ap₂ (λ (a b : Bool). not a || b) (has-low s i k) (has-low r i k))))
-      (subset-word 64 s.high r.high m
-      ∙ sym (every-ext _ _ 64 (λ i k. ap₂ (λ (a b : Bool). not a || b) (has-high s i k) (has-high r i k))))
-      ∙ sym (every-halves (λ h. not (has s h) || has r h))
+pub subset_words : (s r : HartSet) → s.low < 2 ^ 64 → s.high < 2 ^ 64
+    → every harts (λ h. not (has s h) || has r h)
+    ≡ (eqb (bit_and s.low r.low) s.low && eqb (bit_and s.high r.high) s.high)
+subset_words s r l m =
+    every-halves (λ h. not (has s h) || has r h)
+    ∙ ap₂ ◌&&◌
+    (every-ext _ _ 64 (λ i k. ap₂ (λ (a b : Bool). not a || b) (has-low s i k) (has-low r i k))
+    ∙ sym (subset-word 64 s.low r.low l))
+    (every-ext _ _ 64 (λ i k. ap₂ (λ (a b : Bool). not a || b) (has-high s i k) (has-high r i k))
+    ∙ sym (subset-word 64 s.high r.high m))

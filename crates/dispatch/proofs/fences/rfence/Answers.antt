@@ -6,9 +6,9 @@ use Rattle.rules.specs.Machine.{plain_reply}
 use Rattle.rules.specs.Replies.{view, plain}
 use Rattle.rules.specs.Requests.{PlainRequest, fence, unknown, fence_request}
 use Rattle.rules.specs.declared.answers.Error.TheVariants.{NotSupported}
+use Rattle.rules.proofs.Logic.{choice}
 use Rattle.tables.specs.Keeping.{seen}
 use Rattle.dispatch.proofs.MeetsLaws.{plain-handing, by}
-use Rattle.dispatch.proofs.Tests.{choices}
 use Rattle.dispatch.proofs.fences.rfence.Goals as goal
 use Rattle.dispatch.proofs.fences.rfence.Goals.{in-FenceI, in-SfenceVmaAsid, in-SfenceVma}
 
@@ -16,7 +16,7 @@ pub returns-in_err-fence : goal.returns-in_err-fence
 unfolding plain_reply fence_request
 returns-in_err-fence c =
     let a = c.args in
-    let other : fence_request a.r ≡ unknown = grind (arith, choices, c.in_err-fence.ensures) in
+    let other : fence_request a.r ≡ unknown = grind (arith, choice, c.in_err-fence.ensures) in
     plain-handing _ _ c.requires.shaped _ _ NotSupported c.from_residual.ensures c.in_err-fence.ensures.0
     (ap (plain_reply a.p.now (view (seen a.t.now) a.h.number)) other) _
 
@@ -29,9 +29,9 @@ returns c =
     let number : function_of f ≡ a.r.a6 = c.in_ok-fence.ensures in
     let asked : fence_request a.r ≡ fence (function_of f) a.r.a0 a.r.a1 like.start like.size like.id =
     elim c.match-fence.branch [
-      | in-FenceI w ↦ grind (arith, choices, w.like-is, w.fence-like.ensures)
-      | in-SfenceVmaAsid w ↦ grind (arith, choices, w.like-is, w.fence-like-in-SfenceVmaAsid.ensures)
-      | in-SfenceVma w ↦ grind (arith, choices, w.like-is, w.fence-like-in-SfenceVma.ensures)
+      | in-FenceI w ↦ grind (arith, choice, w.like-is, w.fence-like.ensures)
+      | in-SfenceVmaAsid w ↦ grind (arith, choice, w.like-is, w.fence-like-in-SfenceVmaAsid.ensures)
+      | in-SfenceVma w ↦ grind (arith, choice, w.like-is, w.fence-like-in-SfenceVma.ensures)
     ] in
     by _ _ _ _ _ _ _ _
     (ap (λ (q : PlainRequest). plain (view (seen a.t.now) a.h.number)

@@ -1,9 +1,7 @@
--- `send` tests in the order of the rules, then lays one action for each reached hart and tells it.
-use mathlib.Core.Path.{sym, ap, ◌∙◌}
-use Rattle.std.specs.Prelude.{Ok}
+-- `send` tests in the order of the rules, then delivers.
+use mathlib.Core.Path.{sym, ◌∙◌}
 use Rattle.rules.proofs.ReachWays.{fence-unfit, fence-no-id, fence-no-hypervisor, fence-no-range, fence-sent}
-use Rattle.dispatch.proofs.MeetsLaws.{passed, plain-stopping}
-use Rattle.dispatch.proofs.SendingLaws.{sending-by-hart}
+use Rattle.dispatch.proofs.MeetsLaws.{passed, plain-as, plain-stopping}
 use Rattle.dispatch.proofs.fences.send.Goals as goal
 
 pub returns-in_err-ensure : goal.returns-in_err-ensure
@@ -38,12 +36,20 @@ returns-in_err-ensure-4 c =
     c.from_residual-in_err-ensure-4.ensures
     (λ n. fence-no-range _ _ _ _ _ _ _ _ fit id hyp (sym c.range_valid.ensures ∙ n)) _
 
+pub deliver-requires : goal.deliver-requires
+deliver-requires c =
+    record {
+      shaped = c.requires.shaped;
+      room = c.requires.room;
+      fit = sym c.fits.ensures ∙ passed _ _ c.ensure.ensures c.in_ok-ensure.was;
+      sent = c.sent.ensures.received_next;
+    }
+
 pub returns : goal.returns
 returns c =
     let fit = sym c.fits.ensures ∙ passed _ _ c.ensure.ensures c.in_ok-ensure.was in
     let id = sym c.id_valid.ensures ∙ passed _ _ c.ensure-2.ensures c.in_ok-ensure-2.was in
     let hyp = sym c.hypervisors_fit.ensures ∙ passed _ _ c.ensure-3.ensures c.in_ok-ensure-3.was in
     let range = sym c.range_valid.ensures ∙ passed _ _ c.ensure-4.ensures c.in_ok-ensure-4.was in
-    sending-by-hart _ _ _ _ _ _ _ _ fit _ _ c.args.like _ _
-    (rw (c.requires.kind, c.sent.ensures.code) (fence-sent _ _ _ _ _ _ _ _ fit id hyp range))
-    (ap Ok c.actions.ensures) c.lay-n.ensures.number c.tell.ensures c.lay-n.ensures.words
+    plain-as _ _ _ _ _ _
+    (rw (c.requires.kind, c.sent.ensures.code) (fence-sent _ _ _ _ _ _ _ _ fit id hyp range)) c.deliver.ensures

@@ -12,8 +12,4 @@ fine flags e c l = record { codes = λ k q. subst (λ (n : ℕ). n ≤ 21) (same
 
 pub write_counter-requires : goal.write_counter-requires
 write_counter-requires c =
-    (c.requires, (search rules, subst CounterFine (sym c.configured.ensures) (fine _ _ _ (search rules))))
-
-pub returns : goal.returns
-returns c =
-    rw (c.configured.ensures, c.read_counter.ensures, c.index-i.ensures) at c.write_counter.ensures
+    (search rules, subst CounterFine (sym c.configured.ensures) (fine _ _ _ (search rules)))

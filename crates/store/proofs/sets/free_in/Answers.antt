@@ -1,13 +1,8 @@
 -- `free_in` names all eight, or those that do not run.
-use Rattle.store.proofs.KindLaws.{free-all, free-idle}
+use Rattle.store.proofs.KindLaws.{free-all}
 use Rattle.store.specs.Rows.{counters_in}
 use Rattle.std.proofs.Common.{sym, ◌∙◌}
 use Rattle.store.proofs.sets.free_in.Goals as goal
 
 pub returns-then-bit_of : goal.returns-then-bit_of
 returns-then-bit_of c = free-all c.args.flags 0 (counters_in c.args.r.now) (sym c.bit_of.ensures ∙ c.if-bit_of.true)
-
-pub returns-else-bit_of : goal.returns-else-bit_of
-returns-else-bit_of c =
-    c.idle_in.ensures
-    ∙ free-idle c.args.flags 0 (counters_in c.args.r.now) (sym c.bit_of.ensures ∙ c.if-bit_of.false)

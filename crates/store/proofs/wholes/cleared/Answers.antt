@@ -1,22 +1,14 @@
 -- `cleared` folds the words by or.
-use Rattle.store.proofs.TestLaws.{or-none}
-use Rattle.rules.proofs.SetLaws.{every-none, every_more}
-use Rattle.std.proofs.Common.{◌≡◌, ◌+◌, Bool, ◌&&◌, eqb, get_or, sym, ap, ◌∙◌, arith, rules}
+use Rattle.store.proofs.TestLaws.{fold-more, fold-all, is_zero}
+use Rattle.std.specs.List.{list_all}
+use Rattle.std.proofs.lemmas.Fn.{fold_over, slice_gives, fronts}
+use Rattle.std.proofs.Common.{◌≡◌, ℕ, Bor, List, eqb, bit_or, refl, ap, ◌∙◌, rules}
 use Rattle.store.proofs.wholes.cleared.Goals as goal
-
-pub loop-i-init : goal.loop-i-init
-loop-i-init c = (search rules, sym (every-none _))
-
-pub loop-i-preserved : goal.loop-i-preserved
-loop-i-preserved c =
-    let l = c.loop-i in
-    let r = c.args.r.now in (
-      search rules,
-      or-none l.x _ ∙ ap (λ (b : Bool). b && eqb (get_or r (1 + l.i) 0) 0) l.invariant.1
-          ∙ sym (every_more _ l.i),
-    )
 
 pub returns : goal.returns
 returns c =
-    let e : c.loop-i.i ≡ 11 = omega arith in
-    rw e at c.loop-i.invariant.1
+    fold_over fronts (λ (y : Bor ℕ). y.now) _ (λ (ws : List ℕ) (a : ℕ). eqb a 0 ≡ list_all is_zero ws) _
+    (λ ws a w b f' j k. let e : b ≡ bit_or a w.now = search rules in
+    (ap (λ (n : ℕ). eqb n 0) e ∙ fold-more ws a w.now j, refl))
+    c.iter.result c.iter.result.rest.now 0 c.fold.result (slice_gives c.iter.result) refl c.fold.ensures.ran
+    ∙ ap (list_all is_zero) c.iter.ensures.rest ∙ fold-all c.args.r.now c.told-r

@@ -1,22 +1,13 @@
 -- `row_well_formed` asks of the words what the rules ask of what they hold.
 use Rattle.store.proofs.TestLaws.{row_on, row-off}
-use Rattle.store.specs.Tests.{row_well_formed}
-use Rattle.std.proofs.Common.{arith, Bool, ◌&&◌, eqb, get_or, sym, ap, ◌∙◌, ap₂}
+use Rattle.std.proofs.Common.{◌≡◌, ◌&&◌, leb, get_or, sym, rules, tests}
 use Rattle.store.proofs.wholes.row_well_formed.Goals as goal
 
-pub returns-then-enabled : goal.returns-then-enabled
-returns-then-enabled c =
-    let r = c.args.r.now in (
-      c.both-then-enabled.ensures
-          ∙ ap₂ (λ (x y : Bool). x && y) c.both.ensures c.controls.ensures
-          ∙ sym (ap (λ (b : Bool). row_well_formed b r) c.if-enabled.true ∙ row_on r),
-      record { size = omega arith; small = c.small.ensures },
-    )
+pub returns-then-enabled-clause-test : goal.returns-then-enabled-clause-test
+returns-then-enabled-clause-test c =
+    let w = get_or c.args.r.now 0 0 in
+    let e : c.contains.result ≡ (leb 2 w && leb w 15) = search (rules, tests) in
+    rw (c.if-enabled.true, e, c.controls.ensures) (sym (row_on c.args.r.now))
 
-pub returns : goal.returns
-returns c =
-    let r = c.args.r.now in (
-      c.both-2.ensures ∙ ap (λ (x : Bool). eqb (get_or r 0 0) 4 && x) c.cleared.ensures
-          ∙ sym (ap (λ (b : Bool). row_well_formed b r) c.if-enabled.false ∙ row-off r (c.small.ensures 3)),
-      record { size = omega arith; small = c.small.ensures },
-    )
+pub returns-clause-test : goal.returns-clause-test
+returns-clause-test c = rw (c.if-enabled.false, c.cleared.ensures) (sym (row-off c.args.r.now (c.fits-r 3)))
