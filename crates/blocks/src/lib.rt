@@ -9,7 +9,8 @@ use std::array;
 
 pub type Block = [u64; 64];
 
-// What a record asks for.
+// What a record asks for. Unused and unknown are kinds as the others are: a line is printed for one
+// of them, not for the other. An event's code is any number: who is asked tests it.
 #[derive(Clone, Copy, Debug, PartialEq, Eq)]
 pub enum Record {
     Unused,
@@ -28,7 +29,7 @@ fn word_at(bytes: &[u8], at: usize) -> u64
     u64::from_le_bytes(*bytes[at..].first_chunk().unwrap())
 }
 
-// The 64 words of the 512 bytes from a place on.
+// The 64 words of the 512 bytes from a place on, into a block that is lent: any place will do.
 pub fn read(bytes: &[u8], at: usize, block: &mut Block)
     requires { at + 512 ≤ length bytes.now }
     ensures { block.new ≡ words_at 64 bytes.now at }

@@ -7,8 +7,8 @@
 --   Admitted p room h o     what a hart number is taken for: H4, H2, or the hart
 --   told_one, told          the tables once one hart, or some, were told of an event
 --   put_action              memory with one action put at a place
-use Rattle.std.specs.Prelude.{◌≡◌, List, [], ◌∷◌, ◌++◌, true, false, ℕ, ◌+◌, ◌≤◌, length, take, drop}
-use Rattle.std.specs.Prelude.{ltb, Result, Ok, Err}
+use Rattle.std.specs.Prelude.{◌≡◌, List, [], ◌∷◌, ◌++◌, true, false, ℕ, ◌+◌, ◌≤◌, length}
+use Rattle.std.specs.Prelude.{take, drop, ltb, Result, Ok, Err}
 use Rattle.rules.specs.Names.{action_memory}
 use Rattle.rules.specs.Platform.{enabled, platform_accepted}
 use Rattle.rules.specs.Tables.{Tables, tables_well_formed}

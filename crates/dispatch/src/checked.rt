@@ -57,7 +57,7 @@ pub fn wake(p: &Platform, t: &mut Rows, actions: &mut [u64], h: u64) -> Answer
     rouse(t, actions, h)
 }
 
-// A reported event of hart h.
+// A reported event of hart h. Its code is any number that the host may give: H6 is tested here.
 pub fn event(p: &Platform, t: &mut Rows, h: u64, code: u64) -> Answer
     requires { WellFormed p.now t.old }
     ensures { (m : List ℕ) → Meets t.old t.new m m h

@@ -1,8 +1,9 @@
-// A test that an error or a refusal waits for.
+// A check and what is answered where it fails.
 ghost use Rattle.std.specs.Prelude.{◌≡◌};
 ghost use Rattle.dispatch.specs.Checks.{ensured};
 
-// The error, unless the test holds: `ensure(test, error)?` goes on only where it does.
+// The error or the refusal, unless the test holds: `ensure(test, error)?` goes on only where it
+// does.
 pub fn ensure<E: Drop>(test: bool, error: E) -> Result<(), E>
     ensures { result ≡ ensured test error }
 {

@@ -1,6 +1,6 @@
 // Interrupts and remote fences.
 ghost use Rattle.std.specs.Prelude.{◌≡◌, ◌+◌, ◌<◌, ◌≤◌, ◌^◌, ltb, length, true};
-ghost use Rattle.rules.specs.Names.{action_memory, fence_kind, last_code};
+ghost use Rattle.rules.specs.Names.{action_memory, fence_kind};
 ghost use Rattle.rules.specs.Masks.{selected, selection_fits, reached, send_to};
 ghost use Rattle.rules.specs.Fences.{id_valid, hypervisors_fit, range_valid, interrupt_reply};
 ghost use Rattle.rules.specs.Fences.{fence_reply, function_of};
@@ -14,7 +14,7 @@ use crate::checks::ensure;
 use crate::masks::{Selection, lay, tell};
 use rules::actions::{Action, Fence};
 use rules::answers::{Answer, Error, Registers, Success};
-use rules::ids::{EventCode, HartId};
+use rules::ids::{HartId, SentCode};
 use rules::numbers::{ALL_ONES, INTERRUPT_SENT};
 use rules::platform::Platform;
 use tables::Rows;
@@ -63,7 +63,7 @@ fn range_valid(start: u64, size: u64) -> bool
 
 // What an interrupt and a fence do once their checks have passed: an action for each reached hart,
 // and the events of each but the caller. Never a call of its own: with its frame the deepest stack
-// would be past its limit.
+// would be 648 bytes, where 512 are the limit (docs/MEASURES.md).
 #[inline(always)]
 fn deliver(
     p: &Platform,
@@ -72,12 +72,11 @@ fn deliver(
     h: HartId,
     whom: Selection,
     like: Action,
-    code: EventCode,
+    code: SentCode,
 ) -> Answer
     requires shaped { Shaped t.old }
     requires room { action_memory ≤ length actions.old }
     requires fit { selection_fits p.now whom.mask whom.base ≡ true }
-    requires sent { code.number < last_code }
     ensures { Meets t.old t.new actions.old actions.new h.number
         (plain (view (seen t.old) h.number)
         (send_to like.kind like.start like.size like.id code.number
@@ -103,7 +102,7 @@ pub fn interrupt(
         (interrupt_reply p.now (view (seen t.old) h.number) whom.mask whom.base)) result }
 {
     ensure(whom.fits(p), Error::InvalidParam)?;
-    let code = EventCode {
+    let code = SentCode {
         number: INTERRUPT_SENT,
     };
     deliver(p, t, actions, h, whom, Action::interrupt(0), code)
@@ -148,16 +147,20 @@ pub fn rfence(p: &Platform, t: &mut Rows, actions: &mut [u64], h: HartId, r: Reg
         base: r.a1,
     };
     let fence = Fence::try_from(r.a6)?;
-    let like = match fence {
-        Fence::FenceI => Action::fence(fence, 0, 0, 0, 0),
-        Fence::SfenceVmaAsid | Fence::HfenceGvmaVmid | Fence::HfenceVvmaAsid => {
-            Action::fence(fence, 0, r.a2, r.a3, r.a4)
-        }
-        Fence::SfenceVma | Fence::HfenceGvma | Fence::HfenceVvma => {
-            Action::fence(fence, 0, r.a2, r.a3, 0)
-        }
+    let (start, size, id) = match fence {
+        Fence::FenceI => (0, 0, 0),
+        Fence::SfenceVmaAsid | Fence::HfenceGvmaVmid | Fence::HfenceVvmaAsid => (r.a2, r.a3, r.a4),
+        Fence::SfenceVma | Fence::HfenceGvma | Fence::HfenceVvma => (r.a2, r.a3, 0),
     };
-    send(p, t, actions, h, whom, fence, like)
+    send(
+        p,
+        t,
+        actions,
+        h,
+        whom,
+        fence,
+        Action::fence(fence, 0, start, size, id),
+    )
 }
 
 // Interrupts by function.

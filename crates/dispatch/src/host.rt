@@ -63,7 +63,7 @@ pub fn wake(p: &Platform, t: &mut Rows, actions: &mut [u64], h: u64) -> Answer
     checked::wake(p, t, actions, h)
 }
 
-// A firmware event that the host reports of hart h.
+// A firmware event that the host reports of hart h, of any code.
 pub fn event(p: &Platform, t: &mut Rows, h: u64, code: u64) -> Answer
     ensures { (m : List ℕ) → Meets t.old t.new m m h
         (reply p.now (seen t.old) (event h code)) result }

@@ -17,8 +17,8 @@ use rules::numbers::{NON_RETENTIVE, RETENTIVE, START_PENDING, STOP_PENDING, STOP
 use rules::platform::Platform;
 use tables::Rows;
 
-// "Status (FID 2). -3 for a hart not enabled, else its state." The caller h, of whom a start's and a
-// status's contract speak alone, may be any number.
+// "Status (FID 2). -3 for a hart not enabled, else its state." Of status and of start, the caller h
+// stands in the contract alone, and may be any number.
 pub fn status(p: &Platform, t: &Rows, h: u64, target: u64) -> Answer
     requires { Shaped t.now }
     ensures { Keeps t.now h (plain (view (seen t.now) h)
@@ -89,7 +89,8 @@ pub fn suspend(
 }
 
 // Hart states by function, matched as the number that a6 holds: an enum would be made here, to be
-// matched at once. Suspend: "Only the low 32 bits of a0 are read."
+// matched at once; a `Fence` is handed on. Suspend: "Only the low 32 bits of a0 are read": a cast
+// would ask that it fits.
 pub fn hsm(p: &Platform, t: &mut Rows, actions: &mut [u64], h: HartId, r: Registers) -> Answer
     requires shaped { Shaped t.old }
     requires room { action_memory ≤ length actions.old }

@@ -1,7 +1,7 @@
 // Calls, completions, wakes and reported events, over the promises of `tables` alone.
 #![tactic(auto)]
 
-mod checks; // a test that an error or a refusal waits for
+mod checks; // a check and what is answered where it fails
 mod extensions; // the five extensions
 mod laying; // actions put into lent memory
 mod masks; // a selection, asked of each hart

@@ -1,7 +1,7 @@
 // A selection, asked of each hart: which harts a mask selects and reaches, one action for each, and
 // one event for each but the caller.
 ghost use Rattle.std.specs.Prelude.{◌≡◌, true, not, ◌||◌, map, ◌<◌, ◌≤◌, length};
-ghost use Rattle.rules.specs.Names.{harts, action_memory, last_code};
+ghost use Rattle.rules.specs.Names.{harts, action_memory};
 ghost use Rattle.rules.specs.Sets.{every, those};
 ghost use Rattle.rules.specs.Platform.{hypervisor};
 ghost use Rattle.rules.specs.Masks.{selection_fits, bit_fits, selects, reaches, is_reached};
@@ -12,7 +12,7 @@ ghost use Rattle.dispatch.specs.Meets.{told_one, told};
 
 use crate::laying::put_action;
 use rules::actions::Action;
-use rules::ids::{EventCode, HartId};
+use rules::ids::{HartId, SentCode};
 use rules::numbers::{ACTION_WORDS, ALL_ONES, HARTS, STOP_PENDING, STOPPED};
 use rules::platform::{Platform, bit_of};
 use tables::Rows;
@@ -86,7 +86,7 @@ fn is_reached(t: &Rows, h: HartId) -> bool
 }
 
 // One action like this one for each hart that is selected and reached, ascending; how many there
-// are.
+// are, counted by hand, since an iterator that numbers them would not say it at its end.
 pub fn lay(p: &Platform, t: &Rows, out: &mut [u64], whom: Selection, like: Action) -> u64
     requires { action_memory ≤ length out.old }
     ensures number { result
@@ -112,32 +112,23 @@ pub fn lay(p: &Platform, t: &Rows, out: &mut [u64], whom: Selection, like: Actio
     n as u64
 }
 
-// One sent event at the caller and one received event at hart k, unless they are one. "Received is
-// sent + 1."
+// One sent event at the caller and one received event at hart k, unless they are one.
 #[tactic(auto, using(rules::proofs::Logic::choice), unfolding(rules::specs::Replies::tell_one))]
-fn tell_one(t: &mut Rows, caller: HartId, code: EventCode, k: HartId)
-    requires shaped { Shaped t.old }
-    requires sent { code.number < last_code }
+fn tell_one(t: &mut Rows, caller: HartId, code: SentCode, k: HartId)
+    requires { Shaped t.old }
     ensures { Holds t.new (told_one (seen t.old) caller.number code.number k.number) }
 {
     if k != caller {
-        tables::count(t, caller, code);
-        tables::count(
-            t,
-            k,
-            EventCode {
-                number: code.number + 1,
-            },
-        );
+        tables::count(t, caller, code.sent());
+        tables::count(t, k, code.received());
     }
 }
 
 // "For each reached hart other than the caller, the caller has one sent event and the target one
 // received event." It asks each hart anew: the rows that it asks are those that it writes, so that
 // no iterator over the reached harts could lend them to `lay` and to it.
-pub fn tell(p: &Platform, t: &mut Rows, whom: Selection, caller: HartId, code: EventCode)
-    requires shaped { Shaped t.old }
-    requires sent { code.number < last_code }
+pub fn tell(p: &Platform, t: &mut Rows, whom: Selection, caller: HartId, code: SentCode)
+    requires { Shaped t.old }
     ensures { Holds t.new (told (seen t.old) caller.number code.number
         (those harts (reaches p.now (seen t.old).harts whom.mask whom.base))) }
 {

@@ -8,9 +8,9 @@ use Rattle.rules.specs.Names.{invalid_address, already_available, action_memory}
 use Rattle.rules.specs.Answers.{error_number, refusal_number}
 use Rattle.rules.specs.Platform.{has, enabled, hypervisor, used_ranges, lies_in, valid_address}
 use Rattle.rules.specs.Platform.{range_accepted, platform_accepted}
-use Rattle.rules.specs.Tables.{event_well_formed, hart_at, own_at, counter_at, fresh, is_idle, is_blank}
-use Rattle.rules.specs.Tables.{hart_well_formed, counter_well_formed, shaped, hart_row_well_formed}
-use Rattle.rules.specs.Tables.{tables_well_formed, well_formed}
+use Rattle.rules.specs.Tables.{hart_at, own_at, counter_at, fresh, is_idle, is_blank}
+use Rattle.rules.specs.Tables.{hart_well_formed, event_well_formed, counter_well_formed, shaped}
+use Rattle.rules.specs.Tables.{hart_row_well_formed, tables_well_formed, well_formed}
 use Rattle.rules.specs.Replies.{view, Reply, refused, failed, did, moves, plain, counted}
 use Rattle.rules.specs.Replies.{count_at, tell_one, tell, commit}
 use Rattle.rules.specs.Masks.{selected, selection_fits, is_reached, reached, send_to}

@@ -1,5 +1,5 @@
 -- Numbers that their type keeps in range, as src/ids.rt names them.
-use Rattle.rules.specs.Names.{harts, counters, codes}
+use Rattle.rules.specs.Names.{harts, counters, codes, last_code}
 use Rattle.rules.specs.declared.ids.Below.{Below}
 
 -- "Hart numbers 0 to 127."
@@ -13,3 +13,7 @@ CounterId = Below counters
 -- "a mapped code is 0 to 21"
 abbrev pub EventCode : Type 0
 EventCode = Below codes
+
+-- of a sent event, which leaves room for the received one
+abbrev pub SentCode : Type 0
+SentCode = Below last_code

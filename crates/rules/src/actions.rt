@@ -1,12 +1,12 @@
 // What another hart has to do, and the events that it counts as.
 ghost use Rattle.std.specs.Prelude.{◌≡◌, ◌+◌, ◌<◌};
-ghost use Rattle.rules.specs.Names.{interrupt_kind, fence_kind, last_code};
+ghost use Rattle.rules.specs.Names.{interrupt_kind, fence_kind};
 ghost use Rattle.rules.specs.Replies.{enter};
 ghost use Rattle.rules.specs.Masks.{action_for};
 ghost use Rattle.rules.specs.Fences.{function_of, sent_code, FenceGiven};
 
 use crate::answers::Error;
-use crate::ids::EventCode;
+use crate::ids::SentCode;
 use crate::numbers::{ENTER, FENCE, INTERRUPT};
 
 // "An action is five words: target, kind, start, size, id." The kind is a number, as it lies in the
@@ -84,11 +84,10 @@ impl Fence {
 
     // The code of its sent event.
     #[tactic(auto, using(crate::proofs::SentLaws::sent_small))]
-    pub fn sent(self) -> EventCode
-        ensures code { result.number ≡ sent_code (function_of self) }
-        ensures received_next { result.number < last_code }
+    pub fn sent(self) -> SentCode
+        ensures { result.number ≡ sent_code (function_of self) }
     {
-        EventCode {
+        SentCode {
             number: sent_code(self.function()),
         }
     }

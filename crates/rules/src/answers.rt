@@ -83,7 +83,8 @@ pub enum Denial {
 pub type Answer = Result<Success, Denial>;
 
 impl Error {
-    // "a0 carries the error as a negative number"
+    // "a0 carries the error as a negative number": the constant of its type, as document 01 asks
+    // for it, and no discriminant.
     pub fn number(self) -> i64
         ensures { result ≡ error_number self }
     {
@@ -100,7 +101,7 @@ impl Error {
 }
 
 impl Refusal {
-    // The k of Hk.
+    // The k of Hk, a constant as well.
     pub fn number(self) -> u64
         ensures { result ≡ refusal_number self }
     {
@@ -167,7 +168,7 @@ impl From<Error> for Denial {
 }
 
 // The value that stands in a register for an error: "-3 stands in the register as
-// 18446744073709551613".
+// 18446744073709551613". Of any i64 and not of an `Error` alone: success has one too.
 #[tactic(auto, unfolding(crate::specs::Replies::register))]
 pub fn register(error: i64) -> u64
     ensures { result ≡ register error }

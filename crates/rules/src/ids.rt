@@ -1,8 +1,8 @@
 // Numbers that their type keeps in range.
-ghost use Rattle.std.specs.Prelude.{◌≡◌, ◌<◌};
+ghost use Rattle.std.specs.Prelude.{◌≡◌, ◌<◌, ◌+◌};
 
 use crate::answers::{Error, Refusal};
-use crate::numbers::{CODES, COUNTERS, FIRST_EVENT, HARTS, LAST_EVENT, LAST_REPORTED};
+use crate::numbers::{CODES, COUNTERS, FIRST_EVENT, HARTS, LAST_CODE, LAST_EVENT, LAST_REPORTED};
 
 // A number below N.
 #[derive(Clone, Copy, Debug, PartialEq, Eq)]
@@ -19,6 +19,9 @@ pub type CounterId = Below<COUNTERS>;
 
 // "a mapped code is 0 to 21"
 pub type EventCode = Below<CODES>;
+
+// Of a sent event, which leaves room for the received one.
+pub type SentCode = Below<LAST_CODE>;
 
 impl<const N: u64> Below<N> {
     // As an index.
@@ -70,5 +73,25 @@ impl EventCode {
             return Ok(EventCode { number: code });
         }
         Err(Refusal::NotReportable)
+    }
+}
+
+impl SentCode {
+    // The code of the event at the caller.
+    pub fn sent(self) -> EventCode
+        ensures { result.number ≡ self.number }
+    {
+        EventCode {
+            number: self.number,
+        }
+    }
+
+    // That of the event at its target: "Received is sent + 1."
+    pub fn received(self) -> EventCode
+        ensures { result.number ≡ self.number + 1 }
+    {
+        EventCode {
+            number: self.number + 1,
+        }
     }
 }

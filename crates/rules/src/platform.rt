@@ -9,7 +9,8 @@ ghost use Rattle.rules.specs.Platform.{platform_accepted, HartGiven};
 use crate::ids::HartId;
 use crate::numbers::{HARTS, MAX_ASID_WIDTH, MAX_RANGES, MAX_VMID_WIDTH};
 
-// A set of harts as two words of bits: bit h of low is hart h, bit h of high is hart 64 + h.
+// A set of harts as two words of bits: bit h of low is hart h, bit h of high is hart 64 + h. Two
+// words and not a u128: a hart is asked of the one word that holds it, and the host has words.
 #[derive(Clone, Copy, Debug, PartialEq, Eq)]
 pub struct HartSet {
     pub low: u64,

@@ -20,7 +20,9 @@ pub struct Hart {
     pub opaque: u64,
 }
 
-// A counter: the event's code that it is mapped to, if any, whether it runs, and its value.
+// A counter: the event's code that it is mapped to, if any, whether it runs, and its value. The
+// code is any number, since lent rows may hold one over 21, and `running` stands by itself: H1
+// speaks of both (`counter_well_formed`).
 #[derive(Clone, Copy, Debug, PartialEq, Eq)]
 pub struct Counter {
     pub event: Option<u64>,

@@ -69,10 +69,6 @@ module _ (w b : ℕ) where
   abbrev pub marked : ℕ → ℕ
   marked n = mask_of n (λ i. leb b (byte w i))
 
-  pub marked-none : 0 ≡ marked 0
-  unfolding mask_of
-  marked-none = refl
-
   -- the bit of a byte, as the code shifts it
   module _ (n v : ℕ) (t : Bool) (l : n < 8) (e : t ≡ leb b (byte w n)) (q : v ≡ bool_byte t * 2 ^ n % 2 ^ 64) where
     marked-bit : (t : Bool) → bool_byte t * 2 ^ n % 2 ^ 64 ≡ when t then 2 ^ n else 0
@@ -85,12 +81,6 @@ module _ (w b : ℕ) where
     pub marked_more : marked n + v ≡ marked (n + 1)
     marked_more =
         rw (add-one n, q, marked-bit t, e) (sym (mask-more n (λ i. leb b (byte w i))))
-
-    pub marked-small : marked n + v < 2 ^ 64
-    marked-small =
-        let s = mask-small (n + 1) (λ i. leb b (byte w i)) in
-        let m : 2 ^ (n + 1) ≤ 2 ^ 8 = pow_mono (let z : n + 1 ≤ 8 = omega arith in z) in
-        omega (arith, s, m, marked_more)
 
 -- ----- the match
 

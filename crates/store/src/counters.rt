@@ -84,6 +84,7 @@ pub fn configure_counter(r: &mut Row, i: CounterId, flags: u64, code: EventCode)
 pub fn count_row(r: &mut Row, code: EventCode)
     ensures { Alters r.old r.new (map (counted code.number)) }
 {
+    // By number: a counter's control byte and its value lie in two places of the one row.
     let want = code.number as u8 + RUNNING_CODE;
     if r[CONTROL] == 0 {
         return;

@@ -2,7 +2,10 @@
 // that writes asks that the rows are Shaped and leaves them so, for the other rows' sake: a row's
 // type tells that its words are words only where the code reads or writes that row. A struct that
 // lends the rows and has this as its invariant is no plainer: each of the six would promise instead
-// that the struct still holds the caller's reference.
+// that the struct still holds the caller's reference. Nor can a struct own them: the host does, as
+// words. Each function here finds the row; the one of a row behind it knows of no other row. A set
+// of counters is the word of its bits (`set_of`), flags are the word that the call has: neither has
+// more to say than the word. What counters a set may hold is asked, since lent rows may hold any.
 #![tactic(auto, using(crate::proofs::ViewLaws::seen_laws))]
 
 ghost use Rattle.std.specs.Prelude.{◌≡◌, ◌≤◌};
@@ -41,7 +44,8 @@ pub fn put_hart(t: &mut Rows, h: HartId, x: Hart)
     pack(&mut t[h.index()], x);
 }
 
-// Completes the pending state of hart h; leaves a record with none.
+// Completes the pending state of hart h; leaves a record with none. Its state is asked, as by
+// `put_hart`.
 pub fn complete(t: &mut Rows, h: HartId)
     requires { (state_of (seen t.old).harts h.number ≤ RESUME_PENDING) × Shaped t.old }
     ensures { Holds t.new (complete_hart (seen t.old) h.number) }

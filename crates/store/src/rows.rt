@@ -38,7 +38,8 @@ pub const RUNNING_CODE: u8 = 23;
 // Then the values of the eight counters.
 pub const VALUES: usize = 4;
 
-// The rows of all harts.
+// A hart's row. Words and places in them, not a struct: the memory is the host's, lent as words.
 pub type Row = [u64; WORDS];
 
+// The rows of all harts.
 pub type Rows = [Row; HARTS];

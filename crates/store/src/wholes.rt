@@ -1,5 +1,5 @@
 // The test of whole tables, on their words. It has no early exit, so that it also tells the shape
-// of every row: tests are joined by &, which asks both sides, and folded over each word and row.
+// of every row: tests are joined by &, which asks both sides, over each word and row.
 #![tactic(auto, using(crate::proofs::WholeLaws::whole_laws))]
 
 ghost use Rattle.std.specs.Prelude.{◌≡◌, ◌+◌, ◌-◌, length, nat_eq, nat_le};

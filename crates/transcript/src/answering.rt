@@ -12,8 +12,8 @@ use tables::Rows;
 
 pub(crate) const BLOCK_BYTES: usize = 512;
 
-// Lines of so many bytes are written before the next block, whose own then have room: seven of four
-// numbers, none over twenty characters.
+// Lines are written before the next block once they are so many bytes: its own then have room,
+// seven of four numbers, none over twenty characters.
 const ENOUGH: usize = 64000;
 
 const HARTS_0_TO_3: HartSet = HartSet { low: 15, high: 0 };
@@ -88,7 +88,7 @@ impl<P: Print> Transcript<P> {
         let (blocks, rest) = bytes.as_chunks::<BLOCK_BYTES>();
         for block in blocks {
             if self.lines.len() >= ENOUGH {
-                written = self.write();
+                written = written.and(self.write());
             }
             self.block(block)?;
         }

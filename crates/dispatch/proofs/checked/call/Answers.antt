@@ -4,9 +4,7 @@ use Prim.Native.Nat.{ℕ}
 use lib.Dec.{eqb}
 use lib.ListN.{length}
 use borrow.Author.Tests.{eqb-true, eqb-false}
-use Rattle.std.proofs.lemmas.Bool.{ltb-false}
 use Rattle.rules.specs.Machine.{call}
-use Rattle.rules.specs.Platform.{enabled}
 use Rattle.tables.specs.Keeping.{seen}
 use Rattle.rules.specs.declared.records.Hart.{Hart}
 use Rattle.rules.specs.declared.answers.Refusal.TheVariants.{NotStarted}
@@ -33,16 +31,6 @@ returns-in_err-ensure c =
     admitted a.p.now a.t.now _ _ _ (λ (h : ℕ). call room h a.r) _ in'.0 in'.1 refl
     (call-not-started _ _ _ _ _ (λ e. away (ap (λ (x : Hart). x.state) c.get_hart-x.ensures ∙ e)))
     (refusing _ _ c.requires.shaped _ NotStarted refl (refused-by _ stop.1 c.from_residual-in_err-ensure.ensures) _)
-
-pub answer-requires : goal.answer-requires
-answer-requires c =
-    let in' = c.in_ok-h.ensures in
-    record {
-      shaped = c.requires.shaped;
-      fine = c.requires.fine;
-      on = ap (enabled c.args.p.now) in'.1.1 ∙ in'.1.0;
-      room = ltb-false _ _ in'.0;
-    }
 
 pub returns : goal.returns
 returns c =

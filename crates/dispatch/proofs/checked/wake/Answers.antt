@@ -1,7 +1,6 @@
 -- `wake` on well-formed tables: H4, H2, then wake.
 use mathlib.Core.Path.{refl}
 use lib.ListN.{length}
-use Rattle.std.proofs.lemmas.Bool.{ltb-false}
 use Rattle.rules.specs.Machine.{waking}
 use Rattle.tables.specs.Keeping.{seen}
 use Rattle.rules.proofs.HostWays.{waking-reply}
@@ -16,9 +15,6 @@ returns-in_err-h c =
     refusing _ _ c.requires.shaped _ _
     (not-admitted a.p.now (seen a.t.now) (waking room a.h) room refl c.in_err-h.ensures)
     (refused-by _ refl c.from_residual.ensures) _
-
-pub rouse-requires-clause-room : goal.rouse-requires-clause-room
-rouse-requires-clause-room c = ltb-false _ _ c.in_ok-h.ensures.0
 
 pub returns : goal.returns
 returns c =

@@ -1,6 +1,5 @@
 -- `interrupt` delivers where its mask fits.
 use mathlib.Core.Path.{sym, ◌∙◌}
-use native.Mathlib.Omega.{arith}
 use Rattle.rules.proofs.ReachWays.{interrupt-unfit, interrupt-sent}
 use Rattle.dispatch.proofs.MeetsLaws.{passed, plain-as, plain-stopping}
 use Rattle.dispatch.proofs.fences.interrupt.Goals as goal
@@ -9,15 +8,6 @@ pub returns-in_err-ensure : goal.returns-in_err-ensure
 returns-in_err-ensure c =
     plain-stopping _ _ c.requires.shaped _ _ _ _ c.ensure.ensures c.in_err-ensure.was c.from_residual.ensures
     (λ n. interrupt-unfit _ _ _ _ (sym c.fits.ensures ∙ n)) _
-
-pub deliver-requires : goal.deliver-requires
-deliver-requires c =
-    record {
-      shaped = c.requires.shaped;
-      room = c.requires.room;
-      fit = sym c.fits.ensures ∙ passed _ _ c.ensure.ensures c.in_ok-ensure.was;
-      sent = omega arith;
-    }
 
 pub returns : goal.returns
 returns c =

@@ -25,14 +25,17 @@ unfolding plain_reply fence_request
 returns c =
     let a = c.args in
     let f = c.in_ok-fence.fence in
-    let like = c.match-fence.like in
+    let like = c.fence.result in
+    let words = c.match-fence.start in
     let number : function_of f ≡ a.r.a6 = c.in_ok-fence.ensures in
-    let asked : fence_request a.r ≡ fence (function_of f) a.r.a0 a.r.a1 like.start like.size like.id =
+    let read : fence_request a.r ≡ fence (function_of f) a.r.a0 a.r.a1 words.0 words.1 words.2 =
     elim c.match-fence.branch [
-      | in-FenceI w ↦ grind (arith, choice, w.like-is, w.fence-like.ensures)
-      | in-SfenceVmaAsid w ↦ grind (arith, choice, w.like-is, w.fence-like-in-SfenceVmaAsid.ensures)
-      | in-SfenceVma w ↦ grind (arith, choice, w.like-is, w.fence-like-in-SfenceVma.ensures)
+      | in-FenceI w ↦ grind (arith, choice, w.start-is)
+      | in-SfenceVmaAsid w ↦ grind (arith, choice, w.start-is)
+      | in-SfenceVma w ↦ grind (arith, choice, w.start-is)
     ] in
+    let asked : fence_request a.r ≡ fence (function_of f) a.r.a0 a.r.a1 like.start like.size like.id =
+    rw c.fence.ensures read in
     by _ _ _ _ _ _ _ _
     (ap (λ (q : PlainRequest). plain (view (seen a.t.now) a.h.number)
     (plain_reply a.p.now (view (seen a.t.now) a.h.number) q)) asked)

@@ -9,9 +9,6 @@ returns-in_err-ensure c =
     plain-stopping _ _ c.requires.shaped _ _ _ _ c.ensure.ensures c.in_err-ensure.was c.from_residual.ensures
     (λ n. fence-unfit _ _ _ _ _ _ _ _ (sym c.fits.ensures ∙ n)) _
 
-pub hypervisors_fit-requires : goal.hypervisors_fit-requires
-hypervisors_fit-requires c = sym c.fits.ensures ∙ passed _ _ c.ensure.ensures c.in_ok-ensure.was
-
 pub returns-in_err-ensure-2 : goal.returns-in_err-ensure-2
 returns-in_err-ensure-2 c =
     let fit = sym c.fits.ensures ∙ passed _ _ c.ensure.ensures c.in_ok-ensure.was in
@@ -36,15 +33,6 @@ returns-in_err-ensure-4 c =
     c.from_residual-in_err-ensure-4.ensures
     (λ n. fence-no-range _ _ _ _ _ _ _ _ fit id hyp (sym c.range_valid.ensures ∙ n)) _
 
-pub deliver-requires : goal.deliver-requires
-deliver-requires c =
-    record {
-      shaped = c.requires.shaped;
-      room = c.requires.room;
-      fit = sym c.fits.ensures ∙ passed _ _ c.ensure.ensures c.in_ok-ensure.was;
-      sent = c.sent.ensures.received_next;
-    }
-
 pub returns : goal.returns
 returns c =
     let fit = sym c.fits.ensures ∙ passed _ _ c.ensure.ensures c.in_ok-ensure.was in
@@ -52,4 +40,4 @@ returns c =
     let hyp = sym c.hypervisors_fit.ensures ∙ passed _ _ c.ensure-3.ensures c.in_ok-ensure-3.was in
     let range = sym c.range_valid.ensures ∙ passed _ _ c.ensure-4.ensures c.in_ok-ensure-4.was in
     plain-as _ _ _ _ _ _
-    (rw (c.requires.kind, c.sent.ensures.code) (fence-sent _ _ _ _ _ _ _ _ fit id hyp range)) c.deliver.ensures
+    (rw (c.requires.kind, c.sent.ensures) (fence-sent _ _ _ _ _ _ _ _ fit id hyp range)) c.deliver.ensures

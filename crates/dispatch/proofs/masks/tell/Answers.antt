@@ -8,7 +8,7 @@ use Rattle.dispatch.proofs.masks.tell.Goals as goal
 use Rattle.dispatch.proofs.masks.tell.Goals.{then-reaches, else-reaches}
 
 pub loop-number-init : goal.loop-number-init
-loop-number-init c = telling-starts _ _ _ _ c.requires.shaped
+loop-number-init c = telling-starts _ _ _ _ c.requires
 
 pub loop-number-preserved : goal.loop-number-preserved
 loop-number-preserved c =
