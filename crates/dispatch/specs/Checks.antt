@@ -1,4 +1,4 @@
--- A test that an error or a refusal waits for.
+-- A check and what is answered where it fails.
 use Rattle.std.specs.Prelude.{Bool, true, false, Result, Ok, Err}
 
 module _ {E : Type 0} where

@@ -1,7 +1,7 @@
 -- The promises on refusals, errors and answers. Each statement stands under its sentence.
 use mathlib.Core.List.{Memᴰ, List, [], ◌∷◌, map}
 use Rattle.std.specs.Prelude.{Bool, ◌&&◌, ◌||◌, true, false, ◌≡◌, ◌<◌, ℕ, length, eqb, ℤ, None}
-use Rattle.std.specs.Prelude.{Ok, Err}
+use Rattle.std.specs.Prelude.{Ok, Err, negsuc}
 use Rattle.rules.specs.Answers.{done, error_number, refusal_number, parked_in, count_in}
 use Rattle.rules.specs.Requests.{LifeRequest, PlainRequest, Request, base_architecture}
 use Rattle.rules.specs.Requests.{base_implementation, base_implementation_version, base_machine}
@@ -130,7 +130,7 @@ pub data Listed (op : Operation) : Reply → Type 0 where
 abbrev pub RefusalsListed : Type 0
 RefusalsListed = (p : Platform) (t : Tables) (op : Operation) → Listed op (reply p t op)
 
--- "A refusal gives its listed number": that of each host refusal, and of each error
+-- "A refusal gives its listed number": H1 to H8, and -2, -3, -5 to -9 (negsuc n is -(n + 1))
 pub record NumbersListed : Type 0 where
   pub refusals : map refusal_number
       (NotWellFormed ∷ NotEnabled ∷ NotStarted ∷ ShortMemory ∷ StateForbids ∷ NotReportable
@@ -138,8 +138,7 @@ pub record NumbersListed : Type 0 where
   pub errors : map error_number
       (NotSupported ∷ InvalidParam ∷ InvalidAddress ∷ AlreadyAvailable ∷ AlreadyStarted
       ∷ AlreadyStopped ∷ NoSharedMemory ∷ [])
-      ≡ not_supported ∷ invalid_param ∷ invalid_address ∷ already_available ∷ already_started
-      ∷ already_stopped ∷ no_shared_memory ∷ []
+      ≡ negsuc 1 ∷ negsuc 2 ∷ negsuc 4 ∷ negsuc 5 ∷ negsuc 6 ∷ negsuc 7 ∷ negsuc 8 ∷ []
 
 -- "-3 stands in the register as 18446744073709551613": what a0 holds for success and each error
 abbrev pub errors : List ℤ
