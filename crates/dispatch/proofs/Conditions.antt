@@ -14,7 +14,8 @@ use Rattle.rules.specs.Promises.{LivesOf}
 use Rattle.tables.specs.Keeping.{Holds, seen}
 use Rattle.rules.specs.declared.platform.Platform.{Platform}
 use Rattle.rules.specs.declared.answers.Registers.{Registers}
-use Rattle.rules.specs.Answers.{done, Answer}
+use Rattle.rules.specs.Answers.{done, Answer, paired}
+use Rattle.rules.specs.declared.answers.Pair.{Pair}
 use Rattle.std.specs.Prelude.{Ok, Err}
 use Rattle.rules.specs.declared.actions.Action.{Action}
 use Rattle.tables.proofs.Laws.{held-once}
@@ -24,18 +25,26 @@ use Rattle.rules.proofs.RequestWays.{request-hsm, hart-2}
 use Rattle.dispatch.proofs.AnswerLaws.{front-filled, rest-kept, answer-listed, success-shown, status-ready}
 use Rattle.dispatch.specs.Steps.{Step, is_success}
 use Rattle.dispatch.specs.Conditions.{AnswersShow, Condition1, Condition2, Condition3, FrontIsActions}
-use Rattle.dispatch.specs.Conditions.{Isolation, ListedAnswer, LivesOnRows}
+use Rattle.dispatch.specs.Conditions.{Isolation, ListedAnswer, answers-refusal, answers-error, LivesOnRows}
 use Rattle.dispatch.proofs.Outcomes.{fresh-rows-follow}
 
 -- ----- condition 1
+
+-- the pair of an error has 0, no mark and no actions; a refusal has no pair
+bare-pair : {op : Operation} {a : Answer} → ListedAnswer op a → (x : Pair) → paired a ≡ Ok x
+    → (x.value ≡ 0) × ((x.parked ≡ false) × (x.actions ≡ 0))
+bare-pair (answers-refusal m) x e = cc
+bare-pair (answers-error m) x e = (cc, (cc, cc))
 
 -- a refusal or an error is a listed one and leaves rows and memory as they were
 pub condition-1 : Condition1
 unfolding after front_of words_of
 condition-1 p op t t' m m' a k x no' =
     let kept = refusals-alter-nothing p (seen t) op no' in
+    let listed' = subst (ListedAnswer op) (sym x.meets.answer) (answer-listed (refusals-listed p (seen t) op) no') in
     record {
-      listed = subst (ListedAnswer op) (sym x.meets.answer) (answer-listed (refusals-listed p (seen t) op) no');
+      listed = listed';
+      bare = bare-pair listed';
       tables = held-once t' t (seen t) (subst (Holds t') kept.tables x.meets.tables)
           (record { is = refl; shaped = k });
       memory = x.meets.memory ∙ kept.memory m;

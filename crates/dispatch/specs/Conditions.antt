@@ -13,7 +13,8 @@ use Rattle.rules.specs.Rows.{◌does◌, event_of, row_now, ready}
 use Rattle.rules.specs.Refusals.{errors_of, refusals_of}
 use Rattle.rules.specs.Promises.{LivesOf, Alike}
 use Rattle.tables.specs.Keeping.{seen, Shaped, Holds}
-use Rattle.rules.specs.Answers.{done, Answer, count_in}
+use Rattle.rules.specs.Answers.{done, Answer, count_in, paired}
+use Rattle.rules.specs.declared.answers.Pair.{Pair}
 use Rattle.rules.specs.declared.answers.Error.{Error}
 use Rattle.rules.specs.declared.answers.Refusal.{Refusal}
 use Rattle.rules.specs.declared.answers.Denial.TheVariants.{Refused, Failed}
@@ -37,6 +38,8 @@ pub record Declined (op : Operation) (t t' : List (List ℕ)) (m m' : List ℕ) 
   pub tables : t' ≡ t
   pub memory : m' ≡ m
   pub front : take (5 * count_in a) m' ≡ []
+  pub bare : (x : Pair) → paired a ≡ Ok x
+      → (x.value ≡ 0) × ((x.parked ≡ false) × (x.actions ≡ 0))
 
 -- of every step that the rules do not accept
 abbrev pub Condition1 : Type 0

@@ -72,17 +72,20 @@ pub fn event(p: &Platform, t: &mut Rows, h: u64, code: u64) -> Answer
     checked::event(p, t, h, code)
 }
 
-// How many words of actions an answer tells of, and no more than there are.
-fn front_length(a: Answer, room: usize) -> usize
-    ensures { result ≡ min (5 * count_in a) room }
+// How many words that many actions are, and no more than there are.
+fn front_length(count: u64, room: usize) -> usize
+    ensures { result ≡ min (5 * count) room }
 {
-    match a {
-        Ok(done) => done
-            .actions
-            .saturating_mul(ACTION_WORDS as u64)
-            .min(room as u64) as usize,
-        Err(_) => 0,
-    }
+    count.saturating_mul(ACTION_WORDS as u64).min(room as u64) as usize
+}
+
+// The front part of action memory that a number of actions fills: any number, as a pair holds it.
+pub fn front_of<'a>(actions: &'a mut [u64], count: u64) -> &'a mut [u64]
+    ensures words { result.now ≡ take (5 * count) actions.old }
+    ensures place { result.ref_ptr ≡ actions.entry.ref_ptr }
+{
+    let n = front_length(count, actions.len());
+    &mut actions[..n]
 }
 
 // "The host gets back the filled front part of its own action memory".
@@ -90,6 +93,9 @@ pub fn front<'a>(actions: &'a mut [u64], a: Answer) -> &'a mut [u64]
     ensures words { result.now ≡ take (5 * count_in a) actions.old }
     ensures place { result.ref_ptr ≡ actions.entry.ref_ptr }
 {
-    let n = front_length(a, actions.len());
-    &mut actions[..n]
+    let count = match a {
+        Ok(done) => done.actions,
+        Err(_) => 0,
+    };
+    front_of(actions, count)
 }

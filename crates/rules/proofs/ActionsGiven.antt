@@ -9,7 +9,7 @@ use lib.Seq.{take-append_seam, drop-append_seam}
 use lib.ListN.{length}
 use lib.Dec.{eqb}
 use borrow.Author.Tests.{eqb-true}
-use Rattle.rules.specs.Answers.{count_in, parked_in}
+use Rattle.rules.specs.Answers.{count_in, parked_in, paired}
 use Rattle.rules.specs.Replies.{accepted, failed, laid, refused, Done, Reply, View, actions_of, answer_of, did, front_of, memory_after, pair_of, view}
 use Rattle.rules.specs.Replies.{words_of}
 use Rattle.rules.specs.Counters.{event_reply}
@@ -212,6 +212,9 @@ answers-exact p t op =
       no_pair = λ k e. ap (λ r. pair_of (answer_of r)) e;
       error_pair = λ x e. ap (λ r. pair_of (answer_of r)) e;
       done_pair = λ d e. ap (λ r. pair_of (answer_of r)) e;
+      no_paired = λ k e. ap (λ r. paired (answer_of r)) e;
+      error_paired = λ x e. ap (λ r. paired (answer_of r)) e;
+      done_paired = λ d e. ap (λ r. paired (answer_of r)) e;
     }
 
 -- ----- they fit, and are laid at the front

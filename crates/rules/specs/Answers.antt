@@ -6,8 +6,10 @@
 --   Answer             what was done, an error, or Hk
 --   parked_in          whether an answer marks the caller parked
 --   count_in           the number of actions in an answer
+--   pair e v parked n  a pair: the error e, the value v, the mark, n actions
+--   paired             the pair of an answer, or the refusal in its place
 use Rattle.std.specs.Prelude.{ℕ, ℤ, Bool, false, Result, Ok, Err}
-use Rattle.rules.specs.Names.{not_supported, invalid_param, invalid_address, already_available}
+use Rattle.rules.specs.Names.{success, not_supported, invalid_param, invalid_address, already_available}
 use Rattle.rules.specs.Names.{already_started, already_stopped, no_shared_memory}
 use Rattle.rules.specs.Names.{not_well_formed, not_enabled, not_started, short_memory}
 use Rattle.rules.specs.Names.{state_forbids, not_reportable, unknown_kind, block_check}
@@ -22,6 +24,8 @@ use Rattle.rules.specs.declared.answers.Refusal.TheVariants.{ShortMemory, StateF
 use Rattle.rules.specs.declared.answers.Refusal.TheVariants.{NotReportable, UnknownKind, BlockCheck}
 use Rattle.rules.specs.declared.answers.Success.{Success}
 use Rattle.rules.specs.declared.answers.Denial.{Denial}
+use Rattle.rules.specs.declared.answers.Denial.TheVariants.{Failed, Refused}
+use Rattle.rules.specs.declared.answers.Pair.{Pair}
 
 -- "a0 carries the error as a negative number"
 abbrev pub error_number : Error → ℤ
@@ -61,3 +65,14 @@ parked_in (Err d) = false
 abbrev pub count_in : Answer → ℕ
 count_in (Ok d) = d.actions
 count_in (Err d) = 0
+
+-- the error, the value for a1, whether the caller is parked, and the number of actions
+abbrev pub pair : (error : ℤ) → (value : ℕ) → (parked : Bool) → (actions : ℕ) → Pair
+pair e v k n = record { error = e; value = v; parked = k; actions = n }
+
+-- "a1 is 0 on every error", which marks nobody and gives no action; "Host refusals come instead of
+-- a pair"
+abbrev pub paired : Answer → Result Pair Refusal
+paired (Ok d) = Ok (pair success d.value d.parked d.actions)
+paired (Err (Failed e)) = Ok (pair (error_number e) 0 false 0)
+paired (Err (Refused k)) = Err k

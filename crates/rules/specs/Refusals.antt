@@ -3,6 +3,7 @@ use mathlib.Core.List.{Memᴰ, List, [], ◌∷◌, map}
 use Rattle.std.specs.Prelude.{Bool, ◌&&◌, ◌||◌, true, false, ◌≡◌, ◌<◌, ℕ, length, eqb, ℤ, None}
 use Rattle.std.specs.Prelude.{Ok, Err, negsuc}
 use Rattle.rules.specs.Answers.{done, error_number, refusal_number, parked_in, count_in}
+use Rattle.rules.specs.Answers.{pair, paired}
 use Rattle.rules.specs.Requests.{LifeRequest, PlainRequest, Request, base_architecture}
 use Rattle.rules.specs.Requests.{base_implementation, base_implementation_version, base_machine}
 use Rattle.rules.specs.Requests.{base_probe, base_vendor, base_version, counter_configure}
@@ -180,6 +181,12 @@ pub record AnswerExact (r : Reply) : Type 0 where
       → pair_of (answer_of r) ≡ register (error_number e) ∷ 0 ∷ []
   pub done_pair : (d : Done) → r ≡ did d
       → pair_of (answer_of r) ≡ register success ∷ d.value ∷ []
+  -- the pair that the host hands on, with the mark and the number of actions
+  pub no_paired : (k : Refusal) → r ≡ refused k → paired (answer_of r) ≡ Err k
+  pub error_paired : (e : Error) → r ≡ failed e
+      → paired (answer_of r) ≡ Ok (pair (error_number e) 0 false 0)
+  pub done_paired : (d : Done) → r ≡ did d
+      → paired (answer_of r) ≡ Ok (pair success d.value d.parked (length d.actions))
 
 -- of every operation
 abbrev pub AnswersExact : Type 0

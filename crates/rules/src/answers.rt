@@ -1,13 +1,13 @@
 // The registers of a call, and what is answered.
 ghost use Rattle.std.specs.Prelude.{◌≡◌, true, false};
-ghost use Rattle.rules.specs.Answers.{error_number, refusal_number, done};
+ghost use Rattle.rules.specs.Answers.{error_number, refusal_number, done, paired};
 ghost use Rattle.rules.specs.Replies.{register};
 ghost use Rattle.rules.specs.declared.answers.Denial.TheVariants.{Refused, Failed};
 
 use crate::numbers::{
     ALREADY_AVAILABLE, ALREADY_STARTED, ALREADY_STOPPED, BLOCK_CHECK, INVALID_ADDRESS,
     INVALID_PARAM, NO_SHARED_MEMORY, NOT_ENABLED, NOT_REPORTABLE, NOT_STARTED, NOT_SUPPORTED,
-    NOT_WELL_FORMED, SHORT_MEMORY, STATE_FORBIDS, UNKNOWN_KIND,
+    NOT_WELL_FORMED, SHORT_MEMORY, STATE_FORBIDS, SUCCESS, UNKNOWN_KIND,
 };
 
 // a6 holds the function, a7 the extension.
@@ -81,6 +81,16 @@ pub enum Denial {
 
 // What the host gets: the pair of what was done, of an error, or a refusal Hk in its place.
 pub type Answer = Result<Success, Denial>;
+
+// The pair for a0 and a1, its error as a signed number, with the parked mark and the number of
+// actions: what the host hands on.
+#[derive(Clone, Copy, Debug, PartialEq, Eq)]
+pub struct Pair {
+    pub error: i64,
+    pub value: u64,
+    pub parked: bool,
+    pub actions: u64,
+}
 
 impl Error {
     // "a0 carries the error as a negative number": the constant of its type, as document 01 asks
@@ -164,6 +174,28 @@ impl From<Error> for Denial {
 
     fn from(e: Error) -> Self {
         Denial::Failed(e)
+    }
+}
+
+// The pair of an answer, or the refusal that comes instead of it.
+impl TryFrom<Answer> for Pair {
+    type Error = Refusal;
+
+    ghost try_from_gives = { λ a r. r ≡ paired a };
+
+    // "a1 is 0 on every error": no action is given, and nobody is parked.
+    fn try_from(a: Answer) -> Result<Pair, Refusal> {
+        let (error, done) = match a {
+            Ok(done) => (SUCCESS, done),
+            Err(Denial::Failed(error)) => (error.number(), Success::value(0)),
+            Err(Denial::Refused(refusal)) => return Err(refusal),
+        };
+        Ok(Pair {
+            error,
+            value: done.value,
+            parked: done.parked,
+            actions: done.actions,
+        })
     }
 }
 

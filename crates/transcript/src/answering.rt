@@ -3,8 +3,8 @@
 use arrayvec::ArrayString;
 use blocks::{Block, Record};
 use dispatch::host::{call, completion, event, fresh, wake};
-use rules::answers::{Answer, Denial, Refusal};
-use rules::numbers::{ACTION_MEMORY, SUCCESS};
+use rules::answers::{Answer, Pair, Refusal};
+use rules::numbers::ACTION_MEMORY;
 use rules::platform::{HartSet, Platform, Range};
 use std::fmt::Write;
 use std::{fmt, io};
@@ -50,31 +50,37 @@ struct Line {
 impl fmt::Display for Line {
     fn fmt<W: fmt::Write>(&self, f: &mut fmt::Formatter<W>) -> fmt::Result {
         let number = self.number;
-        match self.answer {
-            Ok(done) => write!(f, "{number} {SUCCESS} {} {}", done.value, done.actions),
-            Err(Denial::Failed(error)) => write!(f, "{number} {} 0 0", error.number()),
-            Err(Denial::Refused(k)) => write!(f, "{number} H{}", k.number()),
+        match Pair::try_from(self.answer) {
+            Ok(pair) => write!(
+                f,
+                "{number} {} {} {}",
+                pair.error, pair.value, pair.actions,
+            ),
+            Err(k) => write!(f, "{number} H{}", k.number()),
         }
     }
 }
 
-// What is carried from block to block, and the lines that are still to be written.
+// What is carried from block to block, and the lines that are still to be written. The rows are lent
+// and the platform is kept: rows made here would be copied once more on the stack, and each use of
+// the constant is a copy.
 #[derive(Drop)]
-pub(crate) struct Transcript<P> {
+pub(crate) struct Transcript<'a, P> {
     out: P,
-    rows: Rows,
+    platform: Platform,
+    rows: &'a mut Rows,
     actions: [u64; ACTION_MEMORY],
     // that of the last used record
     number: u64,
     lines: ArrayString<65536>,
 }
 
-impl<P: Print> Transcript<P> {
-    pub(crate) fn new(out: P) -> Self {
-        let mut rows = [[0; 12]; 128];
-        let _ = fresh(&PLATFORM, &mut rows);
+impl<'a, P: Print> Transcript<'a, P> {
+    pub(crate) fn new(out: P, rows: &'a mut Rows) -> Self {
+        let _ = fresh(&PLATFORM, rows);
         Transcript {
             out,
+            platform: PLATFORM,
             rows,
             actions: [0; ACTION_MEMORY],
             number: 0,
@@ -113,8 +119,10 @@ impl<P: Print> Transcript<P> {
         if !blocks::check(&block) {
             return writeln!(self.lines, "H{}", Refusal::BlockCheck.number());
         }
-        for record in blocks::records(&block) {
-            self.record(record)?;
+        // One by one: `blocks::records` makes all seven before the first is looked at, which takes
+        // twice the instructions for a block whose records are unused.
+        for i in 0..7 {
+            self.record(blocks::record_at(&block, i))?;
         }
         Ok(())
     }
@@ -125,16 +133,16 @@ impl<P: Print> Transcript<P> {
             Record::Unused => return Ok(()),
             Record::Call { hart, registers } => {
                 call(
-                    &PLATFORM,
-                    &mut self.rows,
+                    &self.platform,
+                    self.rows,
                     &mut self.actions,
                     hart,
                     registers,
                 )
             }
-            Record::Done { hart } => completion(&PLATFORM, &mut self.rows, &self.actions, hart),
-            Record::Wake { hart } => wake(&PLATFORM, &mut self.rows, &mut self.actions, hart),
-            Record::Event { hart, code } => event(&PLATFORM, &mut self.rows, hart, code),
+            Record::Done { hart } => completion(&self.platform, self.rows, &self.actions, hart),
+            Record::Wake { hart } => wake(&self.platform, self.rows, &mut self.actions, hart),
+            Record::Event { hart, code } => event(&self.platform, self.rows, hart, code),
             Record::Unknown => Err(Refusal::UnknownKind.into()),
         };
         // "Numbers run from 1 over the used records of all right blocks"

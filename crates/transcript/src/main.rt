@@ -17,7 +17,8 @@ fn report<R: Eprint>(rt: &R, what: &str, done: io::Result<()>) {
 }
 
 fn main(rt: HostRuntime) {
-    let mut transcript = Transcript::new(rt.stdout());
+    let mut rows = [[0; 12]; 128];
+    let mut transcript = Transcript::new(rt.stdout(), &mut rows);
     let mut input = rt.stdin();
     let mut bytes = [0u8; 128 * BLOCK_BYTES];
     // A proved loop has to end: no input takes so many turns.
