@@ -42,7 +42,8 @@ impl Selection {
         self.base == ALL_ONES || (0..64).all(|i| self.bit_fits(p, i))
     }
 
-    // Whether a mask that fits selects hart h.
+    // Whether a mask that fits selects hart h. A hart below the base goes by a branch of its own:
+    // both bounds in one test take some three instructions more a hart.
     #[tactic(auto, using(crate::proofs::Tests::of_harts))]
     fn selects(self, p: &Platform, h: u64) -> bool
         ensures { result ≡ selects p.now self.mask self.base h }
@@ -50,7 +51,11 @@ impl Selection {
         if self.base == ALL_ONES {
             return p.is_enabled(h);
         }
-        h >= self.base && h - self.base < 64 && bit_of(self.mask, h - self.base)
+        if h < self.base {
+            return false;
+        }
+        let i = h - self.base;
+        i < 64 && bit_of(self.mask, i)
     }
 
     // Whether a mask that fits selects and reaches hart h.
@@ -68,11 +73,15 @@ impl Selection {
         !self.selects(p, h) || p.has_hypervisor(h)
     }
 
-    // Whether each selected hart has the hypervisor extension.
+    // Whether each selected hart has the hypervisor extension: by the words of both sets where all
+    // enabled harts are selected.
     pub fn all_hypervisors(self, p: &Platform) -> bool
         ensures { result ≡ every harts
             (λ h. not (selects p.now self.mask self.base h) || hypervisor p.now h) }
     {
+        if self.base == ALL_ONES {
+            return p.hypervisor.covers(p.enabled);
+        }
         (0..HARTS).all(|h| self.hypervisor_fits(p, h))
     }
 }
