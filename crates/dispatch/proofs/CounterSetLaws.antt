@@ -120,7 +120,7 @@ module _ (b m : ℕ) where
 
   module _ (p : Platform) (s : m < 2 ^ 64) where
     -- the counters fit just where nothing of the mask lies past them
-    fits_word : all is_counter (counter_set p b m) ≡ eqb (m / 2 ^ (counters - b)) 0
+    pub fits_word : all is_counter (counter_set p b m) ≡ eqb (m / 2 ^ (counters - b)) 0
     unfolding is_counter counter_set
     fits_word =
         both_ways _ _

@@ -28,7 +28,7 @@ length-each f (i ∷ is) cs = length-each f is (set cs i (f (counter_at cs i))) 
 
 module _ (f : Counter → Counter) (g : ℕ → Bool) (cs : List Counter) where
   -- the counters after f at the first n of the set
-  abbrev up_to : ℕ → List Counter
+  abbrev pub up_to : ℕ → List Counter
   up_to n = each f (those n g) cs
 
   -- one counter more

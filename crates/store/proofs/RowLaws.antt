@@ -11,7 +11,7 @@ use Rattle.std.proofs.lemmas.List.FromFn.{length-map-range_with_len, get_or-map-
 
 -- ----- words stay words
 
-small-set : (r : List ℕ) (i v : ℕ) → v < 2 ^ 64 → ((j : ℕ) → get_or r j 0 < 2 ^ 64)
+pub small-set : (r : List ℕ) (i v : ℕ) → v < 2 ^ 64 → ((j : ℕ) → get_or r j 0 < 2 ^ 64)
     → (j : ℕ) → get_or (set r i v) j 0 < 2 ^ 64
 small-set [] i v h s j = s j
 small-set (x ∷ r) zero v h s zero = h

@@ -49,7 +49,7 @@ module _ (t : List (List ℕ)) (k : Shaped t) (h : ℕ) (l : h < harts) where
     shaped = shaped-set t h r k q.fit;
   }
 
-  put-hart-holds : (r : List ℕ) (x : Hart) → Held r x (counters_in (get_or t h []))
+  pub put-hart-holds : (r : List ℕ) (x : Hart) → Held r x (counters_in (get_or t h []))
       → Holds (set t h r) (put_hart (seen t) h x)
   unfolding own_at
   put-hart-holds r x q =
@@ -57,7 +57,7 @@ module _ (t : List (List ℕ)) (k : Shaped t) (h : ℕ) (l : h < harts) where
       (ap (set (seen t).counters h) (sym (own-seen t (size_of t k) h l)) ∙ set-get_or (seen t).counters h [])
       (row-holds r x (counters_in (get_or t h [])) q)
 
-  put-own-holds : (r : List ℕ) (cs : List Counter) → Held r (hart_in (get_or t h [])) cs
+  pub put-own-holds : (r : List ℕ) (cs : List Counter) → Held r (hart_in (get_or t h [])) cs
       → Holds (set t h r) (put_own (seen t) h cs)
   unfolding hart_at
   put-own-holds r cs q =
