@@ -80,7 +80,7 @@ fn front_length(count: u64, room: usize) -> usize
 }
 
 // The front part of action memory that a number of actions fills: any number, as a pair holds it.
-pub fn front_of<'a>(actions: &'a mut [u64], count: u64) -> &'a mut [u64]
+pub fn front_for<'a>(actions: &'a mut [u64], count: u64) -> &'a mut [u64]
     ensures words { result.now ≡ take (5 * count) actions.old }
     ensures place { result.ref_ptr ≡ actions.entry.ref_ptr }
 {
@@ -97,5 +97,5 @@ pub fn front<'a>(actions: &'a mut [u64], a: Answer) -> &'a mut [u64]
         Ok(done) => done.actions,
         Err(_) => 0,
     };
-    front_of(actions, count)
+    front_for(actions, count)
 }
