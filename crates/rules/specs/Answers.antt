@@ -9,8 +9,8 @@
 --   pair e v parked n  a pair: the error e, the value v, the mark, n actions
 --   paired             the pair of an answer, or the refusal in its place
 use Rattle.std.specs.Prelude.{ℕ, ℤ, Bool, false, Result, Ok, Err}
-use Rattle.rules.specs.Names.{success, not_supported, invalid_param, invalid_address, already_available}
-use Rattle.rules.specs.Names.{already_started, already_stopped, no_shared_memory}
+use Rattle.rules.specs.Names.{success, not_supported, invalid_param, invalid_address}
+use Rattle.rules.specs.Names.{already_available, already_started, already_stopped, no_shared_memory}
 use Rattle.rules.specs.Names.{not_well_formed, not_enabled, not_started, short_memory}
 use Rattle.rules.specs.Names.{state_forbids, not_reportable, unknown_kind, block_check}
 use Rattle.rules.specs.declared.answers.Error.{Error}

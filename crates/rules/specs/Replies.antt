@@ -9,10 +9,10 @@
 --   memory_after   the action memory after a reply
 use Rattle.std.specs.Prelude.{Bool, true, false, ◌&&◌, List, [], ◌∷◌, ◌++◌, map, ℕ, suc, ◌+◌, ◌-◌}
 use Rattle.std.specs.Prelude.{◌^◌, ◌%◌, eqb, ℤ, pos, negsuc, get_or, set, length, drop}
-use Rattle.std.specs.Prelude.{Option, Some, None, Ok, Err}
+use Rattle.std.specs.Prelude.{Option, Some, None, Result, Ok, Err}
 use Rattle.rules.specs.Choice.{when◌then◌else◌}
-use Rattle.rules.specs.Names.{success, enter_kind}
-use Rattle.rules.specs.Answers.{error_number, done, Answer}
+use Rattle.rules.specs.Names.{enter_kind}
+use Rattle.rules.specs.Answers.{done, Answer, paired}
 use Rattle.rules.specs.Tables.{Tables, own_at}
 use Rattle.rules.specs.declared.records.Hart.{Hart}
 use Rattle.rules.specs.declared.records.Counter.{Counter}
@@ -20,6 +20,7 @@ use Rattle.rules.specs.declared.actions.Action.{Action}
 use Rattle.rules.specs.declared.answers.Error.{Error}
 use Rattle.rules.specs.declared.answers.Refusal.{Refusal}
 use Rattle.rules.specs.declared.answers.Denial.TheVariants.{Refused, Failed}
+use Rattle.rules.specs.declared.answers.Pair.{Pair}
 
 -- what an operation of a hart is shown
 pub record View : Type 0 where
@@ -157,13 +158,16 @@ answer_of (refused k) = Err (Refused k)
 answer_of (failed e) = Err (Failed e)
 answer_of (did d) = Ok (done d.value d.parked (length d.actions))
 
+-- the error's register value in a0, the value in a1
+abbrev pub registers_of : Result Pair Refusal → List ℕ
+registers_of (Ok x) = register x.error ∷ x.value ∷ []
+registers_of (Err k) = []
+
 -- "Where an answer is an enum, there is a definition that gives this paper's number and values for
 -- each of its cases.": what a0 and a1 hold, "a1 is 0 on every error"; Hk gives no pair. "No other
 -- register changes."
 unfoldable pub pair_of : Answer → List ℕ
-pair_of (Ok s) = register success ∷ s.value ∷ []
-pair_of (Err (Failed e)) = register (error_number e) ∷ 0 ∷ []
-pair_of (Err (Refused k)) = []
+pair_of a = registers_of (paired a)
 
 -- "the front part handed back is then empty"
 unfoldable pub actions_of : Reply → List Action

@@ -21,7 +21,7 @@ returns-then-self c =
     let asked = λ (b : Bool) (h : ℕ). not (when b then enabled p h else names 64 s.base s.mask h) || hypervisor p h in
     c.covers.ensures
     ∙ subst (λ (b : Bool). every 128 (λ h. not (enabled p h) || hypervisor p h) ≡ every 128 (asked b))
-    (sym (eq-eqb s.base 18446744073709551615 c.if-self.true)) refl
+    (sym (eq-eqb s.base _ c.if-self.true)) refl
 
 pub returns : goal.returns
 returns c =
